@@ -1,0 +1,5 @@
+pub mod Truth
+pub mod Places
+pub mod Totals
+pub mod Loops
+pub mod Parts

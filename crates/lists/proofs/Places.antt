@@ -1,0 +1,58 @@
+-- Places in lists: the elements of a mapped run of numbers, blocks laid end to end, and one element set.
+-- Assumes nothing.
+use Prim.Native.Nat.{ℕ, zero, suc, _+_, _<_}
+use mathlib.Core.Path.{_≡_, refl, sym, ap, ap₂, _∙_, subst}
+use mathlib.Core.List.{List, [], _∷_, _++_, map}
+use native.Mathlib.Nat.{add-zero, add-suc, suc-add, le-of-suc-le-suc, not-suc-le-zero}
+use native.Mathlib.Omega.{arith}
+use lib.ListN.{length, getD, take, drop, set}
+use lib.Seq.{drop-append-add, take-at, ext-getD}
+use Rattle.lists.specs.Lists.{from, upTo, sum, flat}
+
+pub append-assoc : {A : Type 0} (xs ys zs : List A) → (xs ++ ys) ++ zs ≡ xs ++ (ys ++ zs)
+append-assoc [] ys zs = refl
+append-assoc (x ∷ xs) ys zs = ap (λ l. x ∷ l) (append-assoc xs ys zs)
+
+pub length-from : (i k : ℕ) → length (from i k) ≡ k
+length-from i zero = refl
+length-from i (suc k) = ap suc (length-from (suc i) k)
+
+pub getD-map-from : {A : Type 0} (f : ℕ → A) (d : A) (n i k : ℕ) → k < n → getD (map f (from i n)) k d ≡ f (i + k)
+getD-map-from f d zero i k h = absurd (not-suc-le-zero h)
+getD-map-from f d (suc n) i zero h = ap f (sym (add-zero i))
+getD-map-from f d (suc n) i (suc k) h = getD-map-from f d n (suc i) k (le-of-suc-le-suc h) ∙ ap f (suc-add i k ∙ sym (add-suc i k))
+
+pub map-from-suc : {A : Type 0} (f : ℕ → A) (n i : ℕ) → map f (from (suc i) n) ≡ map (λ t. f (suc t)) (from i n)
+map-from-suc f zero i = refl
+map-from-suc f (suc n) i = ap (λ l. f (suc i) ∷ l) (map-from-suc f n (suc i))
+
+-- a list is its elements, one by one
+pub map-getD : {A : Type 0} (d : A) (xs ys : List A) → map (λ t. getD (xs ++ ys) t d) (upTo (length xs)) ≡ xs
+map-getD d [] ys = refl
+map-getD d (x ∷ xs) ys = ap (λ l. x ∷ l) (map-from-suc (λ t. getD (x ∷ (xs ++ ys)) t d) (length xs) 0 ∙ map-getD d xs ys)
+
+-- two lists that differ only at R, set there alike
+pub set-alike : {A : Type 0} (d : A) (L M : List A) (R : ℕ) (a : A) → length L ≡ length M
+    → ((u : ℕ) → u < length M → (u ≡ R → ⊥) → getD L u d ≡ getD M u d) → set L R a ≡ set M R a
+set-alike d [] [] R a l h = refl
+set-alike d [] (y ∷ M) R a l h = absurd (omega arith)
+set-alike d (x ∷ L) [] R a l h = absurd (omega arith)
+set-alike d (x ∷ L) (y ∷ M) zero a l h = ap (λ k. a ∷ k) (ext-getD d L M (omega arith) (λ u k. h (suc u) (omega arith) (λ q. omega arith)))
+set-alike d (x ∷ L) (y ∷ M) (suc R) a l h =
+    ap₂ _∷_ (h 0 (omega arith) (λ q. omega arith)) (set-alike d L M R a (omega arith) (λ u k n. h (suc u) (omega arith) (λ q. n (omega arith))))
+
+-- block k of blocks f i, f (i + 1), .., each as long as g says
+pub block : (f : ℕ → List ℕ) (g : ℕ → ℕ) → ((j : ℕ) → length (f j) ≡ g j) → (n i k : ℕ) → k < n
+    → take (g (i + k)) (drop (sum (map g (from i k))) (flat (map f (from i n)))) ≡ f (i + k)
+block f g h zero i k lt = absurd (not-suc-le-zero lt)
+block f g h (suc n) i zero lt =
+    subst (λ (j : ℕ). take (g j) (f i ++ flat (map f (from (suc i) n))) ≡ f j) (sym (add-zero i))
+    (take-at (f i) (flat (map f (from (suc i) n))) (g i) (h i))
+block f g h (suc n) i (suc k) lt =
+    subst (λ (j : ℕ). take (g j) (drop (g i + sum (map g (from (suc i) k))) (f i ++ flat (map f (from (suc i) n)))) ≡ f j) (suc-add i k ∙ sym (add-suc i k))
+    (ap (take (g (suc i + k))) (subst (λ (l : ℕ). drop (l + sum (map g (from (suc i) k))) (f i ++ rest) ≡ drop (sum (map g (from (suc i) k))) rest) (h i)
+    (drop-append-add (f i) rest (sum (map g (from (suc i) k)))))
+    ∙ block f g h n (suc i) k (le-of-suc-le-suc lt))
+  where
+    rest : List ℕ
+    rest = flat (map f (from (suc i) n))

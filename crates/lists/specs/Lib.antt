@@ -1,0 +1,4 @@
+pub mod Lists
+pub mod Totals
+pub mod Loops
+pub mod Parts
