@@ -1,0 +1,9 @@
+pub mod Answers
+pub mod Sheet
+pub mod Plan
+pub mod Base
+pub mod Meaning
+pub mod Store
+pub mod Change
+pub mod Fill
+pub mod Demands
