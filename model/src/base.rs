@@ -33,7 +33,7 @@ impl Change {
     }
 
     /// The old row; an insert carries none.
-    pub fn old(&self) -> &[u64] {
+    pub fn old_row(&self) -> &[u64] {
         match self {
             Change::Insert { .. } => &[],
             Change::Delete { old, .. } | Change::Update { old, .. } => old,
@@ -41,7 +41,7 @@ impl Change {
     }
 
     /// The new row; a delete carries none.
-    pub fn new(&self) -> &[u64] {
+    pub fn new_row(&self) -> &[u64] {
         match self {
             Change::Delete { .. } => &[],
             Change::Insert { new, .. } | Change::Update { new, .. } => new,

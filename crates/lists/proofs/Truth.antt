@@ -9,7 +9,7 @@ use native.Mathlib.Nat.{not-suc-le-zero, le-of-suc-le-suc}
 use native.Mathlib.Omega.{arith}
 use lib.Dec.{T, eqb, eqb→eq, eqb-refl}
 use lib.ListN.{length, getD}
-use Rattle.lists.specs.Lists.{all, any, select, member, from, upTo}
+use Rattle.lists.specs.Lists.{all, any, select, sameLists, member, from, upTo}
 
 -- a test that is passed, and one that is not
 pub isT : {b : Bool} → b ≡ true → T b
@@ -152,6 +152,15 @@ module _ {A : Type 0} where
   mem-getD d [] i h = absurd (not-suc-le-zero h)
   mem-getD d (x ∷ xs) zero h = inl refl
   mem-getD d (x ∷ xs) (suc i) h = inr (mem-getD d xs i (le-of-suc-le-suc h))
+
+  -- lists that pass the test of being the same are equal, if elements that pass theirs are
+  pub sameLists→≡ : (same : A → A → Bool) → ((x y : A) → T (same x y) → x ≡ y) → (xs ys : List A) → T (sameLists same xs ys) → xs ≡ ys
+  sameLists→≡ same law [] [] h = refl
+  sameLists→≡ same law [] (y ∷ ys) h = absurd h
+  sameLists→≡ same law (x ∷ xs) [] h = absurd h
+  sameLists→≡ same law (x ∷ xs) (y ∷ ys) h =
+      ap₂ _∷_ (law x y (and-fst (same x y) (sameLists same xs ys) h))
+      (sameLists→≡ same law xs ys (and-snd (same x y) (sameLists same xs ys) h))
 
 module _ {A B : Type 0} where
   pub mem-map : (f : A → B) (xs : List A) (x : A) → Mem x xs → Mem (f x) (map f xs)

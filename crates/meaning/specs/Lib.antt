@@ -7,3 +7,5 @@ pub mod Store
 pub mod Change
 pub mod Fill
 pub mod Demands
+pub mod Cases
+pub mod Besides

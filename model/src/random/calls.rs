@@ -4,7 +4,7 @@ use super::changes::{any_change, lawful_change, misshapen, tied_update, Words};
 use super::damage::{damaged_run, damaged_sheet, damaged_store, misfit_store};
 use super::scene::{Rooms, Scene};
 use super::sheets::{any_rooms, good_sheet};
-use super::stores::{any_contents, disturbed};
+use super::stores::{any_contents, disturbed, table_altered};
 use super::{Random, Size};
 use crate::base;
 
@@ -91,20 +91,22 @@ fn sheet_and_store(
 }
 
 fn change(random: &mut Random, size: Size) -> Call {
-    let scene = scene(random, size);
+    let mut scene = scene(random, size);
     let (plan, base) = (&scene.plan, &scene.base);
-    let mut change = match random.below(20) {
+    let change = match random.below(20) {
         0..=8 => lawful_change(random, plan, base),
         9..=10 => tied_update(random, plan, base),
         _ => None,
     };
-    let change = change
-        .take()
-        .unwrap_or_else(|| any_change(random, plan, base, &scene.contents));
+    let change = change.unwrap_or_else(|| any_change(random, plan, base, &scene.contents));
     let words = match random.chance(9) {
         true => misshapen(random, plan, &change),
         false => Words::of(&change),
     };
+    if change.kind() == 3 && random.chance(15) {
+        let contents = table_altered(random, plan, &scene.contents, change.table());
+        scene.set_contents(contents);
+    }
     let (sheet, store) = sheet_and_store(random, &scene, 8, 4);
     Call::Change {
         sheet,

@@ -21,8 +21,8 @@ impl Words {
         Words {
             kind: change.kind(),
             table: change.table() as u64,
-            old: change.old().to_vec(),
-            new: change.new().to_vec(),
+            old: change.old_row().to_vec(),
+            new: change.new_row().to_vec(),
         }
     }
 }
@@ -30,14 +30,18 @@ impl Words {
 /// A lawful change, if some tries find one.
 pub fn lawful_change(random: &mut Random, plan: &Plan, base: &Base) -> Option<Change> {
     for _ in 0..30 {
-        let table = random.below(plan.tables());
+        let kind = random.below(10);
+        let table = match kind >= 6 {
+            true => alterable_table(random, plan),
+            false => random.below(plan.tables()),
+        };
         let rows = &base[table];
-        let change = match random.below(10) {
-            0..=4 => Change::Insert {
+        let change = match kind {
+            0..=3 => Change::Insert {
                 table,
                 new: row(random, plan, table, &keys(base)),
             },
-            5..=6 if !rows.is_empty() => Change::Delete {
+            4..=5 if !rows.is_empty() => Change::Delete {
                 table,
                 old: random.pick(rows),
             },
@@ -55,10 +59,22 @@ pub fn lawful_change(random: &mut Random, plan: &Plan, base: &Base) -> Option<Ch
     None
 }
 
+/// Mostly a table with a listed column that an update may alter.
+fn alterable_table(random: &mut Random, plan: &Plan) -> usize {
+    let sheet = &plan.sheet;
+    let listed = sheet.listed.iter();
+    let free = listed.filter(|one| one.column > 0 && !sheet.tied(one.table, one.column));
+    let tables: Vec<usize> = free.map(|one| one.table).collect();
+    match !tables.is_empty() && random.chance(80) {
+        true => random.pick(&tables),
+        false => random.below(plan.tables()),
+    }
+}
+
 /// The row with other values in some columns, none of them tied or the key.
 fn untied_altered(random: &mut Random, plan: &Plan, table: usize, old: &[u64]) -> Row {
     let mut new = old.to_vec();
-    let percent = random.pick(&[0, 40, 80, 100]);
+    let percent = random.pick(&[0, 50, 80, 100, 100, 100]);
     for (column, value) in new.iter_mut().enumerate().skip(1) {
         if !plan.sheet.tied(table, column) && random.chance(percent) {
             *value = match random.chance(15) {
@@ -73,12 +89,14 @@ fn untied_altered(random: &mut Random, plan: &Plan, table: usize, old: &[u64]) -
 /// A change of the right shape that need not be lawful.
 pub fn any_change(random: &mut Random, plan: &Plan, base: &Base, contents: &Contents) -> Change {
     // Parents and children in the middle are as likely as the root, which shows most contradictions.
-    let table = match random.chance(25) {
-        true => plan.root,
-        false => random.below(plan.tables()),
+    let kind = random.below(10);
+    let table = match random.below(10) {
+        0..=2 => plan.root,
+        3..=7 if kind >= 6 => alterable_table(random, plan),
+        _ => random.below(plan.tables()),
     };
     let old = some_row(random, plan, base, contents, table);
-    match random.below(10) {
+    match kind {
         0..=2 => Change::Insert { table, new: old },
         3..=5 => Change::Delete { table, old },
         _ => {
@@ -124,7 +142,14 @@ fn some_row(
         }
         _ => row(random, plan, table, &side_keys),
     };
-    if random.chance(25) {
+    if random.chance(15) {
+        // Perhaps it is no longer qualified, though its key may stand.
+        for column in 1..found.len() {
+            if plan.sheet.tied(table, column) && random.chance(60) {
+                found[column] = random.other(found[column]);
+            }
+        }
+    } else if random.chance(20) {
         let column = random.below(found.len());
         found[column] = match random.chance(50) {
             true => value(random, plan, table, column, &side_keys),

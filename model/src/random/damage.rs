@@ -16,8 +16,9 @@ pub fn damaged_sheet(random: &mut Random, sheet: &Sheet) -> Vec<u64> {
         false => 1,
     };
     let mut chosen: Vec<usize> = (0..kinds).map(|_| random.below(3)).collect();
-    // Damage to counts comes last: the others find their places by the counts.
+    // Damage to counts comes last and once: all find their places by the counts.
     chosen.sort();
+    chosen.dedup();
     for kind in chosen {
         match kind {
             0 => break_tree(random, sheet, &mut words),

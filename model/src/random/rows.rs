@@ -83,6 +83,11 @@ pub fn lawful_base(random: &mut Random, plan: &Plan, rows: usize) -> Base {
     let mut base: Base = vec![Vec::new(); plan.tables()];
     let few = random.chance(10);
     for table in parents_first(plan) {
+        // Rows of the root share their parents, so that one change touches many list rows.
+        let rows = match table == plan.root {
+            true => rows + 2,
+            false => rows,
+        };
         let tries = match few {
             true => random.between(0, 2),
             false => random.between(rows / 2, rows + 1),

@@ -76,7 +76,7 @@ impl Scene {
                 return;
             };
             let (kind, table) = (change.kind(), change.table() as u64);
-            let (old, new) = (change.old(), change.new());
+            let (old, new) = (change.old_row(), change.new_row());
             let outcome = change_call(&self.sheet, &self.store, kind, table, old, new);
             if outcome.number == 0 {
                 base::apply(&mut self.base, &change);

@@ -7,12 +7,13 @@ use crate::sheet::{Condition, Edge, Listed, Sheet};
 pub fn good_sheet(random: &mut Random, size: Size) -> Sheet {
     let tables = match random.chance(size.many_tables) {
         true => random.between(6, 8),
-        false => random.between(1, 5),
+        false => random.pick(&[1, 2, 2, 3, 3, 3, 4, 4, 4, 5, 5]),
     };
     let mut edges = tree(random, tables);
     let mut widths = Vec::new();
     for table in 0..tables {
-        let least = match edges.iter().any(|edge| edge.child == table) {
+        let has_parents = edges.iter().any(|edge| edge.child == table);
+        let least = match has_parents || random.chance(70) {
             true => 2,
             false => 1,
         };
@@ -25,15 +26,40 @@ pub fn good_sheet(random: &mut Random, size: Size) -> Sheet {
     for edge in &mut edges {
         edge.column = random.between(1, widths[edge.child] - 1);
     }
-    promise(random, &mut edges);
+    let style = Style::any(random);
+    promise(random, style, &mut edges);
     let conditions = conditions(random, &widths);
-    let listed = listed(random, &widths, &edges);
+    let listed = listed(random, style, &widths, &edges);
     Sheet {
         rooms: vec![0; tables + 1],
         widths,
         edges,
         conditions,
         listed,
+    }
+}
+
+/// Which keys a sheet lists: this decides Need, and with it the root's side table.
+#[derive(Clone, Copy, PartialEq, Eq)]
+enum Style {
+    EveryKey,
+    NoKey,
+    EveryKeyButTheRoots,
+    /// The keys of the root's parents, and all edges promised: the root has no
+    /// side table, and updates of other tables go by key.
+    ByKey,
+    AnyKeys,
+}
+
+impl Style {
+    fn any(random: &mut Random) -> Style {
+        match random.below(20) {
+            0..=2 => Style::EveryKey,
+            3..=5 => Style::NoKey,
+            6..=8 => Style::EveryKeyButTheRoots,
+            9..=15 => Style::ByKey,
+            _ => Style::AnyKeys,
+        }
     }
 }
 
@@ -61,8 +87,11 @@ fn tree(random: &mut Random, tables: usize) -> Vec<Edge> {
 }
 
 /// All edges are promised in half of the sheets: only there can the root go without a side table.
-fn promise(random: &mut Random, edges: &mut [Edge]) {
-    let percent = random.pick(&[100, 100, 100, 100, 100, 0, 50, 60, 70, 80]);
+fn promise(random: &mut Random, style: Style, edges: &mut [Edge]) {
+    let percent = match style {
+        Style::ByKey => 100,
+        _ => random.pick(&[100, 100, 100, 0, 50, 60, 70, 80]),
+    };
     for edge in edges {
         edge.promised = random.chance(percent);
     }
@@ -70,9 +99,9 @@ fn promise(random: &mut Random, edges: &mut [Edge]) {
 
 fn conditions(random: &mut Random, widths: &[usize]) -> Vec<Condition> {
     let count = match random.below(20) {
-        0..=6 => 0,
-        7..=12 => 1,
-        13..=16 => 2,
+        0..=8 => 0,
+        9..=13 => 1,
+        14..=16 => 2,
         17..=18 => random.between(3, 5),
         _ => random.between(6, 16),
     };
@@ -113,8 +142,8 @@ fn range(random: &mut Random) -> (u64, u64) {
     }
 }
 
-/// Listings with and without keys: which keys are listed decides Need, and with it the root's side table.
-fn listed(random: &mut Random, widths: &[usize], edges: &[Edge]) -> Vec<Listed> {
+/// Listings with and without keys, by the style; other columns as chance has it.
+fn listed(random: &mut Random, style: Style, widths: &[usize], edges: &[Edge]) -> Vec<Listed> {
     let root = (0..widths.len())
         .find(|&table| edges.iter().all(|edge| edge.parent != table))
         .expect("a tree has a root");
@@ -122,21 +151,19 @@ fn listed(random: &mut Random, widths: &[usize], edges: &[Edge]) -> Vec<Listed> 
         let joins = |edge: &Edge| edge.child == root && edge.parent == table;
         edges.iter().any(joins)
     };
-    let mode = random.below(8);
-    let rest = random.pick(&[0, 15, 30, 60]);
+    let rest = match style {
+        Style::ByKey => random.pick(&[30, 60, 80]),
+        _ => random.pick(&[0, 25, 50, 80]),
+    };
     let (mut first, mut others) = (Vec::new(), Vec::new());
-    for table in 0..widths.len() {
-        for column in 0..widths[table] {
-            let (wanted, percent) = match (mode, column) {
-                // Every key.
-                (0, 0) => (true, 0),
-                // No key.
-                (1, 0) => (false, 0),
-                // Every key but the root's.
-                (2, 0) => (table != root, 0),
-                // The root's and its parents': updates farther off go by key.
-                (3..=5, 0) => (next_to_root(table) || table == root, 25),
-                (_, 0) => (false, 50),
+    for (table, &width) in widths.iter().enumerate() {
+        for column in 0..width {
+            let (wanted, percent) = match (style, column) {
+                (Style::EveryKey, 0) => (true, 0),
+                (Style::NoKey, 0) => (false, 0),
+                (Style::EveryKeyButTheRoots, 0) => (table != root, 0),
+                (Style::ByKey, 0) => (next_to_root(table), 15),
+                (Style::AnyKeys, 0) => (false, 50),
                 _ => (false, rest),
             };
             let listed = Listed { table, column };

@@ -136,3 +136,26 @@ fn disturb(random: &mut Random, plan: &Plan, contents: &mut Contents) {
         _ => {}
     }
 }
+
+/// The contents with one value of the table altered in a list row, if the list shows one besides the key.
+pub fn table_altered(
+    random: &mut Random,
+    plan: &Plan,
+    contents: &Contents,
+    table: usize,
+) -> Contents {
+    let mut contents = contents.clone();
+    let mut places = Vec::new();
+    for (place, listed) in plan.sheet.listed.iter().enumerate() {
+        if listed.table == table && listed.column > 0 {
+            places.push(place);
+        }
+    }
+    if !places.is_empty() && !contents.list.is_empty() {
+        let row = random.below(contents.list.len());
+        let place = random.pick(&places);
+        contents.list[row][place] = random.other(contents.list[row][place]);
+    }
+    contents.sort();
+    contents
+}
