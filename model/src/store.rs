@@ -1,6 +1,6 @@
 //! The store: its words from rows and back, whether it is sound, and the show call.
 
-use crate::plan::{Plan, COUNTS, LIST_COUNT};
+use crate::plan::{Plan, LIST_COUNT};
 use crate::{Refusal, Row};
 
 /// The rows that a sound store holds.
@@ -107,7 +107,7 @@ fn shown_words(sheet: &[u64], store: &[u64], part: u64) -> Result<Vec<u64>, Refu
     let part = part as usize;
     let (count, columns) = match part < tables {
         true => (store[part], plan.columns[part].len()),
-        false => (store[COUNTS - 1], plan.sheet.listed.len()),
+        false => (store[LIST_COUNT], plan.sheet.listed.len()),
     };
     let start = plan.starts[part];
     Ok(store[start..start + count as usize * columns].to_vec())

@@ -134,7 +134,7 @@ fn demand_3(seed: u64, scenes: usize, changes: usize, size: Size) -> Reached {
 
 #[test]
 fn demand_3_on_small_scenes() {
-    let reached = demand_3(3, 3000, 20, SMALL);
+    let reached = demand_3(3, 4000, 20, SMALL);
     for kind in 1..=3 {
         reached.demand(&format!("lawful {kind} in a side table alone"), 100);
         reached.demand(&format!("lawful {kind} changes nothing"), 100);
@@ -157,7 +157,7 @@ fn demand_3_on_small_scenes() {
 
 #[test]
 fn demand_3_on_big_scenes() {
-    let reached = demand_3(4, 20, 30, BIG);
+    let reached = demand_3(4, 60, 30, BIG);
     reached.demand("lawful 3 with list rows written by ways", 5);
     reached.demand("lawful 3 with list rows written by key, 0 steps", 5);
 }

@@ -1,4 +1,13 @@
 //! Prints random calls with the model's outcome: `calls SEED COUNT [big]`, one call per line.
+//!
+//! Words are parted by spaces and fields by `|`; an empty row or part is an empty field.
+//!
+//! - `plan|SHEET|OUTCOME`, where the outcome is number, root, store length and,
+//!   for each table, kept, the counted sets of shown columns, Dep and Need,
+//!   then start and room (for a refusal: the number, 0, 0);
+//! - `change|SHEET|STORE|KIND TABLE|OLD|NEW|NUMBER TAKEN ADDED|STORE AFTER`;
+//! - `show|SHEET|STORE|PART|NUMBER|WORDS`;
+//! - `fill|SHEET|STORE|BASE|NUMBER TAKEN ADDED|STORE AFTER`.
 
 use model::change::change_call;
 use model::fill::fill_call;

@@ -4,9 +4,10 @@ use super::changes::{any_change, lawful_change, misshapen, tied_update, Words};
 use super::damage::{damaged_run, damaged_sheet, damaged_store, misfit_store};
 use super::scene::{Rooms, Scene};
 use super::sheets::{any_rooms, good_sheet};
-use super::stores::{any_contents, disturbed, table_altered};
+use super::stores::{any_contents, disturbed, one_copy_fewer, table_altered};
 use super::{Random, Size};
 use crate::base;
+use crate::change::ways_can_be_taken;
 
 /// One call with all that it is given.
 #[derive(Clone, Debug, PartialEq, Eq)]
@@ -103,8 +104,17 @@ fn change(random: &mut Random, size: Size) -> Call {
         true => misshapen(random, plan, &change),
         false => Words::of(&change),
     };
-    if change.kind() == 3 && random.chance(15) {
+    // Contradictions on the list are rare by chance alone, those by key most of all.
+    let aimed = match change.kind() {
+        3 if !ways_can_be_taken(plan, change.table()) => 40,
+        3 => 10,
+        _ => 0,
+    };
+    if random.chance(aimed) {
         let contents = table_altered(random, plan, &scene.contents, change.table());
+        scene.set_contents(contents);
+    } else if random.chance(30) {
+        let contents = one_copy_fewer(random, &scene.contents);
         scene.set_contents(contents);
     }
     let (sheet, store) = sheet_and_store(random, &scene, 8, 4);

@@ -65,6 +65,12 @@ fn alterable_table(random: &mut Random, plan: &Plan) -> usize {
     let listed = sheet.listed.iter();
     let free = listed.filter(|one| one.column > 0 && !sheet.tied(one.table, one.column));
     let tables: Vec<usize> = free.map(|one| one.table).collect();
+    // Without its key on the list, an update must walk or take ways.
+    let walks = tables.iter().filter(|&&table| !sheet.lists(table, 0));
+    let walking: Vec<usize> = walks.copied().collect();
+    if !walking.is_empty() && random.chance(40) {
+        return random.pick(&walking);
+    }
     match !tables.is_empty() && random.chance(80) {
         true => random.pick(&tables),
         false => random.below(plan.tables()),
@@ -88,7 +94,7 @@ fn untied_altered(random: &mut Random, plan: &Plan, table: usize, old: &[u64]) -
 
 /// A change of the right shape that need not be lawful.
 pub fn any_change(random: &mut Random, plan: &Plan, base: &Base, contents: &Contents) -> Change {
-    // Parents and children in the middle are as likely as the root, which shows most contradictions.
+    // The root has most ways, and only it may go without a side table.
     let kind = random.below(10);
     let table = match random.below(10) {
         0..=2 => plan.root,
@@ -144,9 +150,9 @@ fn some_row(
     };
     if random.chance(15) {
         // Perhaps it is no longer qualified, though its key may stand.
-        for column in 1..found.len() {
+        for (column, value) in found.iter_mut().enumerate().skip(1) {
             if plan.sheet.tied(table, column) && random.chance(60) {
-                found[column] = random.other(found[column]);
+                *value = random.other(*value);
             }
         }
     } else if random.chance(20) {

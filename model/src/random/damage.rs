@@ -41,7 +41,7 @@ fn any_words(random: &mut Random) -> Vec<u64> {
 /// For refusal 1.
 fn break_count(random: &mut Random, sheet: &Sheet, words: &mut Vec<u64>) {
     let (edges, conditions, listed) = places(sheet);
-    match random.below(12) {
+    match random.below(13) {
         0 => words[0] = random.pick(&[0, 9, words[0] + 1, words[0] - 1]),
         1 => words[1] = random.other(words[1]),
         2 => words[2] = random.pick(&[17, words[2] + 1, words[2] + (1 << 62)]),
@@ -73,6 +73,11 @@ fn break_count(random: &mut Random, sheet: &Sheet, words: &mut Vec<u64>) {
             words[1] += 1;
             words.splice(edges..edges, [0, 1, 0, 1]);
         }
+        11 => {
+            let more = 17 - sheet.listed.len();
+            words[3] = 17;
+            words.splice(listed..listed, [0, 0].repeat(more));
+        }
         _ => {
             // Nine tables in a row, each with two columns.
             *words = vec![9, 8, 0, 1];
@@ -92,25 +97,24 @@ fn break_word(random: &mut Random, sheet: &Sheet, words: &mut [u64]) {
     let (edges, conditions, listed) = places(sheet);
     let rooms = listed + 2 * sheet.listed.len();
     let far = random.pick(&[1 << 32, 1 << 63]);
-    let kind = random.below(9);
-    match kind {
+    match random.below(10) {
         0 => words[4 + random.below(tables)] = random.pick(&[0, 9, 2 + far, u64::MAX]),
         1 => {
             let place = 4 + random.below(tables);
             words[place] = random.other(words[place]);
         }
-        2 | 3 if !sheet.edges.is_empty() => {
+        2..=4 if !sheet.edges.is_empty() => {
             let edge = random.below(sheet.edges.len());
             let width = sheet.widths[sheet.edges[edge].child] as u64;
-            let (place, word) = match random.below(4) {
+            let (place, word) = match random.below(6) {
                 0 => (0, random.pick(&[tables as u64, far, 8])),
-                1 => (1, random.pick(&[0, width, 1 + far])),
-                2 => (2, random.pick(&[tables as u64, far, 8])),
+                1..=2 => (1, random.pick(&[0, width, 1 + far])),
+                3 => (2, random.pick(&[tables as u64, far, 8])),
                 _ => (3, random.pick(&[2, far, 1 + far, u64::MAX])),
             };
             words[edges + 4 * edge + place] = word;
         }
-        4 | 5 if !sheet.conditions.is_empty() => {
+        5 | 6 if !sheet.conditions.is_empty() => {
             let condition = random.below(sheet.conditions.len());
             let place = conditions + 4 * condition;
             let width = sheet.widths[sheet.conditions[condition].table] as u64;
@@ -123,7 +127,7 @@ fn break_word(random: &mut Random, sheet: &Sheet, words: &mut [u64]) {
                 }
             }
         }
-        6 | 7 => {
+        7 | 8 => {
             let one = random.below(sheet.listed.len());
             let other = random.below(sheet.listed.len());
             let place = listed + 2 * one;
@@ -236,7 +240,8 @@ pub fn damaged_store(random: &mut Random, plan: &Plan, store: &[u64]) -> Vec<u64
         3 => words[count] += 1 << 32,
         4..=6 if words.len() > 9 => {
             let place = random.between(9, words.len() - 1);
-            words[place] = random.pick(&[random.clone().value(), u64::MAX, words[place] ^ 1]);
+            let value = random.value();
+            words[place] = random.pick(&[value, u64::MAX, words[place] ^ 1]);
         }
         // Two rows change places, or the key of one becomes the other's.
         7 | 8 if words.len() > 10 => {

@@ -2,6 +2,7 @@
 
 use super::Random;
 use crate::base::{is_lawful_change, Base, Change};
+use crate::list::root_first;
 use crate::plan::Plan;
 use crate::Row;
 
@@ -67,13 +68,7 @@ pub fn keys(tables: &[Vec<Row>]) -> Vec<Vec<u64>> {
 
 /// The tables, each parent before its child.
 pub fn parents_first(plan: &Plan) -> Vec<usize> {
-    let mut order = vec![plan.root];
-    let mut next = 0;
-    while next < order.len() {
-        let parents = plan.sheet.edges_from(order[next]).map(|edge| edge.parent);
-        order.extend(parents.collect::<Vec<usize>>());
-        next += 1;
-    }
+    let mut order = root_first(&plan.sheet);
     order.reverse();
     order
 }

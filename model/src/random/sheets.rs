@@ -9,7 +9,8 @@ pub fn good_sheet(random: &mut Random, size: Size) -> Sheet {
         true => random.between(6, 8),
         false => random.pick(&[1, 2, 2, 3, 3, 3, 4, 4, 4, 5, 5]),
     };
-    let mut edges = tree(random, tables);
+    let style = Style::any(random);
+    let mut edges = tree(random, style, tables);
     let mut widths = Vec::new();
     for table in 0..tables {
         let has_parents = edges.iter().any(|edge| edge.child == table);
@@ -26,7 +27,6 @@ pub fn good_sheet(random: &mut Random, size: Size) -> Sheet {
     for edge in &mut edges {
         edge.column = random.between(1, widths[edge.child] - 1);
     }
-    let style = Style::any(random);
     promise(random, style, &mut edges);
     let conditions = conditions(random, &widths);
     let listed = listed(random, style, &widths, &edges);
@@ -64,10 +64,14 @@ impl Style {
 }
 
 /// The edges of a tree on shuffled table numbers; the columns are chosen later.
-fn tree(random: &mut Random, tables: usize) -> Vec<Edge> {
+fn tree(random: &mut Random, style: Style, tables: usize) -> Vec<Edge> {
     let mut order: Vec<usize> = (0..tables).collect();
     random.shuffle(&mut order);
-    let shape = random.below(4);
+    // A walk by key passes on only in a tree that is deep enough.
+    let shape = match style {
+        Style::ByKey => random.pick(&[0, 0, 1, 2]),
+        _ => random.below(4),
+    };
     let mut edges = Vec::new();
     for place in 1..tables {
         let child = match shape {

@@ -159,3 +159,15 @@ pub fn table_altered(
     contents.sort();
     contents
 }
+
+/// The contents with one copy fewer of a list row that stands more than once, if there is one.
+pub fn one_copy_fewer(random: &mut Random, contents: &Contents) -> Contents {
+    let mut contents = contents.clone();
+    let list = &contents.list;
+    let twice = |place: &usize| list[*place] == list[*place - 1];
+    let places: Vec<usize> = (1..list.len()).filter(twice).collect();
+    if !places.is_empty() {
+        contents.list.remove(random.pick(&places));
+    }
+    contents
+}
