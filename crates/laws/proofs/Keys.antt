@@ -1,21 +1,21 @@
 -- Keys among rows: where no key stands twice, which keys are there after a row is put in or taken out, and rows of one width.
 -- Assumes nothing.
 use Prim.Native.Nat.{ℕ, _+_, _<_, _≤_}
-use mathlib.Core.Path.{_≡_, refl, sym, ap, _∙_, subst}
-use mathlib.Core.Bool.{Bool, true, false, cond, not, _&&_, _||_}
-use mathlib.Core.List.{[], _∷_, map}
+use mathlib.Core.Path.{_≡_, refl, sym, ap, ap₂, _∙_, subst}
+use mathlib.Core.Bool.{Bool, true, false, cond, not}
+use mathlib.Core.List.{List, [], _∷_, map}
 use mathlib.Core.Logic.{_⊎_, inl, inr, ⊎-elim}
 use native.Mathlib.Omega.{arith}
 use lib.Dec.{T, eqb, ltb→lt}
 use lib.ListN.{length}
 use borrow.Author.Tests.{ltb-false}
-use Rattle.lists.specs.Lists.{all, any, noneTwice}
+use Rattle.lists.specs.Lists.{all, any, select}
 use Rattle.lists.specs.Totals.{total, one, Same}
-use Rattle.lists.proofs.Truth.{Mem, isT, T→≡, F→≡, F→not, not→F, false→F, all-get, all-make, any-get, any-make, mem-map, eq→eqb, eqb→≡, and-fst, and-snd, and-both, or-inl, or-inr, or-cases}
+use Rattle.lists.proofs.Truth.{Mem, isT, T→≡, F→≡, F→not, not→F, all-get, all-make, any-get, any-make, any-same, map-mem, mem-select, eq→eqb, eqb→≡, and-fst, and-snd, and-both, or-cases}
 use Rattle.lists.proofs.Totals.{any-total, any-of, all-of}
 use Rattle.rows.specs.Rows.{Row, Rows, key, sameRow, putRow, putRows, sorted, takeRow, takeRows, hasRow, hasKey, noKeyTwice}
-use Rattle.rows.proofs.Ordered.{same→≡, ≡→same}
-use Rattle.rows.proofs.Sorted.{total-put, same-take, same-sorted}
+use Rattle.rows.proofs.Ordered.{same→≡}
+use Rattle.rows.proofs.Sorted.{total-put, total-sorted, same-take, same-sorted}
 use Rattle.rows.proofs.Cut.{Wide}
 use Rattle.laws.proofs.Lists.{any-map}
 
@@ -38,6 +38,11 @@ take-mem r (y ∷ rows) x m = go (sameRow r y) m (λ m. take-mem r rows x m)
     go false (inl e) ih = inl e
     go false (inr m) ih = inr (ih m)
 
+pub key-select : (p : Row → Bool) (k : ℕ) (rows : Rows) → T (hasKey k (select p rows)) → T (hasKey k rows)
+key-select p k rows h =
+    let w = any-get (λ x. eqb k (key x)) (select p rows) h in
+    any-make (λ x. eqb k (key x)) rows (w .0) (mem-select p rows (w .0) (w .1) .0) (w .2)
+
 -- No key twice, taken apart
 pub once-first : (r : Row) (rows : Rows) → T (noKeyTwice (r ∷ rows)) → T (hasKey (key r) rows) → ⊥
 once-first r rows o h =
@@ -53,10 +58,10 @@ once-cons r rows h o =
     (F→not (any (eqb (key r)) (map key rows)) (λ k. h (subst T (any-map (eqb (key r)) key rows) k))) o
 
 -- how often a key stands
-pub times-key : ℕ → Rows → ℕ
+times-key : ℕ → Rows → ℕ
 times-key k rows = total (λ r. one (eqb k (key r))) rows
 
-pub once-count : (rows : Rows) → T (noKeyTwice rows) → (k : ℕ) → times-key k rows ≤ 1
+once-count : (rows : Rows) → T (noKeyTwice rows) → (k : ℕ) → times-key k rows ≤ 1
 unfolding times-key total
 once-count [] o k = omega arith
 once-count (y ∷ rows) o k = go (eqb k (key y)) refl (once-count rows (once-rest y rows o) k)
@@ -68,7 +73,7 @@ once-count (y ∷ rows) o k = go (eqb k (key y)) refl (once-count rows (once-res
         omega arith
     go false e ih = omega arith
 
-pub count-once : (rows : Rows) → ((k : ℕ) → times-key k rows ≤ 1) → T (noKeyTwice rows)
+count-once : (rows : Rows) → ((k : ℕ) → times-key k rows ≤ 1) → T (noKeyTwice rows)
 unfolding times-key total
 count-once [] h = tt
 count-once (y ∷ rows) h =
@@ -82,6 +87,25 @@ count-once (y ∷ rows) h =
 pub once-same : (xs ys : Rows) → Same xs ys → T (noKeyTwice xs) → T (noKeyTwice ys)
 unfolding times-key
 once-same xs ys h o = count-once ys (λ k. subst (λ (n : ℕ). n ≤ 1) (h (λ r. one (eqb k (key r)))) (once-count xs o k))
+
+pub once-sorted : (rows : Rows) → T (noKeyTwice rows) → T (noKeyTwice (sorted rows))
+once-sorted rows o = once-same rows (sorted rows) (λ f. sym (total-sorted f rows)) o
+
+-- rows altered but for their keys, and rows left out
+pub once-map : (f : Row → Row) (rows : Rows) → ((r : Row) → Mem r rows → key (f r) ≡ key r) → T (noKeyTwice rows) → T (noKeyTwice (map f rows))
+once-map f [] h o = tt
+once-map f (r ∷ rows) h o =
+    once-cons (f r) (map f rows) (λ k. once-first r rows o (subst T (any-map (λ x. eqb (key (f r)) (key x)) f rows
+    ∙ any-same (λ x. eqb (key (f r)) (key (f x))) (λ x. eqb (key r) (key x)) rows (λ x m. ap₂ eqb (h r (inl refl)) (h x (inr m)))) k))
+    (once-map f rows (λ x m. h x (inr m)) (once-rest r rows o))
+
+pub once-select : (p : Row → Bool) (rows : Rows) → T (noKeyTwice rows) → T (noKeyTwice (select p rows))
+once-select p [] o = tt
+once-select p (r ∷ rows) o = go (p r) (once-select p rows (once-rest r rows o))
+  where
+    go : (b : Bool) → T (noKeyTwice (select p rows)) → T (noKeyTwice (cond b (r ∷ select p rows) (select p rows)))
+    go true ih = once-cons r (select p rows) (λ k. once-first r rows o (key-select p (key r) rows k)) ih
+    go false ih = ih
 
 pub once-put : (r : Row) (rows : Rows) → (T (hasKey (key r) rows) → ⊥) → T (noKeyTwice rows) → T (noKeyTwice (putRow r rows))
 unfolding total
@@ -127,6 +151,9 @@ wide-make w rows h = all-make (λ r. eqb (length r) w) rows (λ r m. eq→eqb (h
 
 pub wide-get : (w : ℕ) (rows : Rows) → Wide w rows → (r : Row) → Mem r rows → length r ≡ w
 wide-get w rows h r m = eqb→≡ (length r) w (all-get (λ r. eqb (length r) w) rows h r m)
+
+pub wide-map : {A : Type 0} (w : ℕ) (f : A → Row) (xs : List A) → ((x : A) → Mem x xs → length (f x) ≡ w) → Wide w (map f xs)
+wide-map w f xs h = wide-make w (map f xs) (λ r m. let k = map-mem f xs r m in ap length (k .2) ∙ h (k .0) (k .1))
 
 pub wide-sorted : (w : ℕ) (rows : Rows) → Wide w rows → Wide w (sorted rows)
 wide-sorted w rows h = subst T (sym (all-of (λ r. eqb (length r) w) (sorted rows) rows (same-sorted rows))) h

@@ -8,3 +8,5 @@ pub mod Ways
 pub mod Qualified
 pub mod Meanings
 pub mod Through
+pub mod Models
+pub mod Stores

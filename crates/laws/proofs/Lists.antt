@@ -2,16 +2,16 @@
 -- selections, and the front of a sum.
 -- Assumes nothing.
 use Prim.Native.Nat.{ℕ, zero, suc, _+_, _<_, _≤_}
-use mathlib.Core.Path.{_≡_, refl, sym, ap, _∙_, subst}
+use mathlib.Core.Path.{_≡_, refl, sym, ap, ap₂, _∙_, subst}
 use mathlib.Core.Bool.{Bool, true, false, cond, _&&_, _||_}
 use mathlib.Core.List.{List, [], _∷_, _++_, map}
 use mathlib.Core.Logic.{_⊎_, inl, inr, ⊎-elim}
 use native.Mathlib.Nat.{zero-add, add-zero, add-suc, suc-add, le-of-suc-le-suc, not-suc-le-zero}
 use native.Mathlib.Omega.{arith}
 use lib.Dec.{T, eqb}
-use lib.ListN.{length, getD, set, length-map}
-use lib.Seq.{getD-set-same, getD-set-other}
-use Rattle.lists.specs.Lists.{any, select, flat, from, upTo, sum}
+use lib.ListN.{length, getD, take, drop, set, replicate, length-map, length-append}
+use lib.Seq.{getD-set-same, getD-set-other, drop-drop, take-add}
+use Rattle.lists.specs.Lists.{Words, all, any, select, flat, from, upTo, sum}
 use Rattle.lists.specs.Totals.{total}
 use Rattle.lists.proofs.Truth.{Mem, eq→eqb, eqb→≡, decided, and-fst, and-snd, and-both, mem-append}
 use Rattle.lists.proofs.Places.{getD-map-from, length-from}
@@ -115,3 +115,33 @@ sum-front f (suc n) i (suc k) h =
     let ih = sum-front f n (suc i) k (le-of-suc-le-suc h) in
     let e : f (suc i + k) ≡ f (i + suc k) = ap f (suc-add i k ∙ sym (add-suc i k)) in
     omega arith
+
+-- a sum's last term
+pub sum-last : (f : ℕ → ℕ) (k i : ℕ) → sum (map f (from i (suc k))) ≡ sum (map f (from i k)) + f (i + k)
+sum-last f zero i = let e : f (i + 0) ≡ f i = ap f (add-zero i) in omega arith
+sum-last f (suc k) i =
+    let ih = sum-last f k (suc i) in
+    let e : f (suc i + k) ≡ f (i + suc k) = ap f (suc-add i k ∙ sym (add-suc i k)) in
+    omega arith
+
+-- the blocks of a run, laid end to end again: block k has size k words from place start k
+pub blocks : (start size : ℕ → ℕ) → ((k : ℕ) → start (suc k) ≡ start k + size k) → (ws : Words) (n i : ℕ)
+    → flat (map (λ k. take (size k) (drop (start k) ws)) (from i n)) ≡ take (sum (map size (from i n))) (drop (start i) ws)
+blocks start size h ws zero i = refl
+blocks start size h ws (suc n) i =
+    ap (λ l. take (size i) (drop (start i) ws) ++ l)
+    (blocks start size h ws n (suc i) ∙ ap (take (sum (map size (from (suc i) n)))) (ap (λ k. drop k ws) (h i) ∙ sym (drop-drop (size i) (start i) ws)))
+    ∙ sym (take-add (size i) (sum (map size (from (suc i) n))) (drop (start i) ws))
+
+pub length-flat-map : (f : ℕ → Words) (g : ℕ → ℕ) → ((k : ℕ) → length (f k) ≡ g k) → (ks : List ℕ) → length (flat (map f ks)) ≡ sum (map g ks)
+length-flat-map f g h [] = refl
+length-flat-map f g h (k ∷ ks) = length-append (f k) (flat (map f ks)) ∙ ap₂ _+_ (h k) (length-flat-map f g h ks)
+
+-- a run of zeros
+pub zeros : (k : ℕ) → T (all (eqb 0) (replicate k 0))
+zeros zero = tt
+zeros (suc k) = zeros k
+
+pub zeros-are : (ws : Words) → T (all (eqb 0) ws) → ws ≡ replicate (length ws) 0
+zeros-are [] h = refl
+zeros-are (x ∷ ws) h = ap₂ _∷_ (sym (eqb→≡ 0 x (and-fst (eqb 0 x) (all (eqb 0) ws) h))) (zeros-are ws (and-snd (eqb 0 x) (all (eqb 0) ws) h))

@@ -2,23 +2,21 @@
 -- Assumes nothing.
 use Prim.Native.Nat.{ℕ, _<_}
 use mathlib.Core.Path.{_≡_, refl, sym, ap, _∙_, subst}
-use mathlib.Core.Bool.{Bool}
 use mathlib.Core.List.{[], _∷_, map}
 use native.Mathlib.Omega.{arith}
 use lib.Dec.{T, leb, eqb}
-use lib.ListN.{length, getD, drop, set, length-set, length-drop}
+use lib.ListN.{length, drop, set, length-set}
 use lib.Seq.{ext-getD}
-use Rattle.lists.specs.Lists.{Words, at, all, upTo, sum}
+use Rattle.lists.specs.Lists.{Words, at, all}
 use Rattle.lists.specs.Totals.{Same}
 use Rattle.lists.proofs.Truth.{Mem, all-get, all-make, mem-upTo, upTo-mem, eq→eqb, eqb→≡}
-use Rattle.rows.specs.Rows.{Row, Rows, key, cut, putRows, takeRows, hasKey, noKeyTwice}
-use Rattle.rows.proofs.Cut.{wide-cut}
+use Rattle.rows.specs.Rows.{Row, Rows, cut, putRows, takeRows, hasKey, noKeyTwice}
 use Rattle.meaning.specs.Sheet.{Edge, Sheet, tables, width}
 use Rattle.meaning.specs.Plan.{promised}
 use Rattle.meaning.specs.Base.{Tables, rowsOf, baseStart, baseOf, isMet, hasParents, hasWidth, lawfulTable, lawful, goodBase}
 use Rattle.meaning.specs.Meaning.{qualified, sideTable, theList, meaning}
 use Rattle.meaning.specs.Change.{qualifies, Effect, after}
-use Rattle.laws.proofs.Lists.{here-or, by-set, at-upTo, length-upTo, Each, apart, together, sum-front}
+use Rattle.laws.proofs.Lists.{by-set, at-upTo, length-upTo, Each, apart, together}
 use Rattle.laws.proofs.Sheets.{Good}
 use Rattle.laws.proofs.Trees.{Promised, promised-is, is-promised, parent-other}
 use Rattle.laws.proofs.Ways.{list-same}

@@ -1,22 +1,20 @@
 -- A call's number is that of the first test that is not passed: chains of refusals, and what each call is when it is accepted or refused.
 -- Assumes nothing.
-use Prim.Native.Nat.{ℕ, zero, suc}
+use Prim.Native.Nat.{ℕ}
 use mathlib.Core.Path.{_≡_, refl, sym, ap, _∙_, subst}
-use mathlib.Core.Bool.{Bool, true, false, cond, not, _&&_}
+use mathlib.Core.Bool.{Bool, true, false, cond, not}
 use mathlib.Core.List.{List, [], _∷_, _++_}
-use mathlib.Core.Logic.{_⊎_, inl, inr, ⊎-elim}
-use native.Mathlib.Omega.{arith}
-use lib.Dec.{T, leb, eqb}
-use lib.ListN.{length, drop}
+use mathlib.Core.Logic.{_⊎_, inl, inr}
+use lib.Dec.{T, eqb}
+use lib.ListN.{drop}
 use Rattle.lists.specs.Lists.{Words, all}
 use Rattle.lists.proofs.Truth.{isT, eq→eqb, eqb→≡, cond-true, cond-false, and-fst, and-snd, not→F}
 use Rattle.meaning.specs.Answers.{unless, _orElse_, refused}
 use Rattle.meaning.specs.Sheet.{sheetOf, goodCounts, goodWords, goodTree, sheetRefusal}
-use Rattle.meaning.specs.Plan.{Plan, storeLength, goodPlan, noPlan, plan}
-use Rattle.meaning.specs.Base.{Change, baseOf, goodBase, goodChange, tiedStay}
-use Rattle.meaning.specs.Meaning.{meaning}
-use Rattle.meaning.specs.Store.{modelOf, sound, fits, showRefusal, stretchOf, show}
-use Rattle.meaning.specs.Change.{modelAfter, agrees, changeRefusal, accepted, change}
+use Rattle.meaning.specs.Plan.{goodPlan, noPlan, plan}
+use Rattle.meaning.specs.Base.{Change}
+use Rattle.meaning.specs.Store.{showRefusal, stretchOf, show}
+use Rattle.meaning.specs.Change.{changeRefusal, accepted, change}
 use Rattle.meaning.specs.Fill.{fillRefusal, filled, fill}
 use Rattle.meaning.specs.Demands.{Refused, Test, test, First, sheetTests, changeTests, fillTests, showTests}
 

@@ -3,12 +3,12 @@
 -- Assumes nothing.
 use Prim.Native.Nat.{ℕ, zero, suc, _+_, _*_, _-_, _<_, _≤_}
 use mathlib.Core.Path.{_≡_, refl, sym, ap, _∙_, subst}
-use mathlib.Core.Bool.{Bool, true, false, cond, _&&_}
+use mathlib.Core.Bool.{Bool, true, false, cond}
 use mathlib.Core.List.{List, [], _∷_}
 use mathlib.Core.Logic.{_⊎_, inl, inr}
 use native.Mathlib.Omega.{arith}
 use lib.Dec.{T, ltb, leb, eqb, ltb→lt, leb→le}
-use lib.ListN.{length, getD, drop, length-take, length-drop, length-map}
+use lib.ListN.{length, drop, length-take, length-drop, length-map}
 use Rattle.lists.specs.Lists.{Words, at, between, all, any, select, noneTwice}
 use Rattle.lists.proofs.Truth.{Mem, all-get, any-get, mem-select, select-mem, mem-getD, mem-upTo, upTo-mem, eq→eqb, eqb→≡, false→F, or-cases, cond-true, cond-false}
 use Rattle.rows.specs.Rows.{cut}
