@@ -1,0 +1,12 @@
+pub mod Lists
+pub mod Numbers
+pub mod Sheets
+pub mod Trees
+pub mod Columns
+pub mod Keys
+pub mod Ways
+pub mod Qualified
+pub mod Meanings
+pub mod Through
+pub mod Models
+pub mod Stores
