@@ -1,3 +1,6 @@
 pub mod Ordered
 pub mod Sorted
 pub mod Cut
+pub mod Columns
+pub mod Search
+pub mod Ranks
