@@ -4,3 +4,5 @@ pub mod Cut
 pub mod Columns
 pub mod Search
 pub mod Ranks
+pub mod Moves
+pub mod Regions
