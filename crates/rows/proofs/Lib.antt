@@ -6,3 +6,4 @@ pub mod Search
 pub mod Ranks
 pub mod Moves
 pub mod Regions
+pub mod Marks
