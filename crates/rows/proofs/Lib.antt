@@ -7,3 +7,5 @@ pub mod Ranks
 pub mod Moves
 pub mod Regions
 pub mod Marks
+pub mod Pairs
+pub mod Keys
