@@ -6,3 +6,6 @@ pub mod Search
 pub mod Ranks
 pub mod Moves
 pub mod Regions
+pub mod Marks
+pub mod Pairs
+pub mod Keys

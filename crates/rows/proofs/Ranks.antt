@@ -8,10 +8,10 @@ use mathlib.Core.Logic.{inl, inr}
 use native.Mathlib.Omega.{arith}
 use lib.Dec.{T, ltb, eqb}
 use lib.ListN.{length, getD}
-use borrow.Author.Tests.{ltb-false, le-ltb}
+use borrow.Author.Tests.{ltb-true, ltb-false, le-ltb}
 use Rattle.lists.specs.Lists.{Words, at}
 use Rattle.lists.specs.Totals.{total, one}
-use Rattle.lists.proofs.Truth.{Mem, isT, T→≡, F→≡, any-get, any-make, mem-getD, eq→eqb, eqb→≡}
+use Rattle.lists.proofs.Truth.{Mem, isT, T→≡, F→≡, false→F, any-get, any-make, mem-getD, eq→eqb, eqb→≡}
 use Rattle.lists.proofs.Totals.{total-sum, total-same, any-total}
 use Rattle.rows.specs.declared.Order.{Order}
 use Rattle.rows.specs.declared.Order.the-variants.{Less, Equal, Greater}
@@ -20,7 +20,7 @@ use Rattle.rows.specs.declared.Found.the-variants.{At, Missing}
 use Rattle.rows.specs.Rows.{Row, Rows, key, cut, rowOrder, smaller, sameRow, notAfter, rising, hasRow, hasKey}
 use Rattle.rows.specs.Ranks.{rank, rankAfter, times, rankKey, foundRow, foundKey}
 use Rattle.rows.specs.Words.{row}
-use Rattle.rows.proofs.Ordered.{same→≡, ≡→same, order-same, order-less-differs, order-greater-differs, order-equal, smaller-itself, neither-smaller, after-false, smaller-once, less-smaller, greater-smaller, less-not-smaller, equal-not-smaller}
+use Rattle.rows.proofs.Ordered.{itself, same→≡, ≡→same, order-same, order-less-differs, order-greater-differs, order-equal, smaller-itself, neither-smaller, after-false, smaller-once, less-smaller, greater-smaller, less-not-smaller, equal-not-smaller}
 use Rattle.rows.proofs.Cut.{cut-length, cut-at}
 use Rattle.rows.proofs.Search.{rising-at, key-up, smaller-falls, not-after-falls, key-falls, passed-below, passed-above, failed-from, row-key}
 
@@ -77,15 +77,33 @@ rank-times r rows =
 pub equal-between : (r : Row) (rows : Rows) (first end : ℕ) → first ≡ rank r rows → end ≡ rankAfter r rows → (first ≤ end) × (end - first ≡ times r rows)
 equal-between r rows first end e f = (omega (arith, rank-times r rows), omega (arith, rank-times r rows))
 
+pub rankAfter-le : (r : Row) (rows : Rows) → rank r rows + times r rows ≤ length rows
+unfolding rankAfter
+rankAfter-le r rows = rw (← rank-times r rows) (passes-le (λ q. notAfter q r) rows)
+
 -- row j from the place of r on, below the rows after it, is r; and r stands at its place if at all
 module _ (r : Row) (rows : Rows) (u : T (rising rows)) where
-  pub equal-at : (j : ℕ) → rank r rows ≤ j → j < rank r rows + times r rows → j < length rows → getD rows j [] ≡ r
+  pub equal-at : (j : ℕ) → rank r rows ≤ j → j < rank r rows + times r rows → getD rows j [] ≡ r
   unfolding rank rankAfter
-  equal-at j h l m =
+  equal-at j h l =
+      let m : j < length rows = omega (arith, rankAfter-le r rows) in
       let k : j < rankAfter r rows = rw (rank-times r rows) l in
       let a : smaller (getD rows j []) r ≡ false = passed-above (λ q. smaller q r) rows (smaller-falls rows u r) j h m in
       let b : notAfter (getD rows j []) r ≡ true = passed-below (λ q. notAfter q r) rows (not-after-falls rows u r) j k in
       neither-smaller (getD rows j []) r a (after-false (getD rows j []) r (isT b))
+
+  pub equal-place : (j : ℕ) → j < length rows → getD rows j [] ≡ r → (rank r rows ≤ j) × (j < rank r rows + times r rows)
+  unfolding rank rankAfter
+  equal-place j m e = (
+    failed-from (λ q. smaller q r) rows (smaller-falls rows u r) j (rw e (smaller-itself r)),
+    rw (← rank-times r rows) (below (ltb j (rankAfter r rows)) refl),
+  )
+    where
+      below : (b : Bool) → ltb j (rankAfter r rows) ≡ b → j < rankAfter r rows
+      below true g = ltb-true j (rankAfter r rows) g
+      below false g =
+          let a : notAfter (getD rows j []) r ≡ false = passed-above (λ q. notAfter q r) rows (not-after-falls rows u r) j (ltb-false j (rankAfter r rows) g) m in
+          absurd (false→F (sym (ap (λ (q : Row). notAfter q r) e) ∙ a) (itself r))
 
   pub rank-at : T (hasRow r rows) → (rank r rows < length rows) × (getD rows (rank r rows) [] ≡ r)
   unfolding rank

@@ -1,30 +1,29 @@
 -- A region with a row put in or taken out: it is again a region, of the rows with that row put or taken.
 -- Assumes nothing.
 use Prim.Native.Nat.{ℕ, zero, suc, _+_, _-_, _*_, _<_, _≤_}
-use mathlib.Core.Path.{_≡_, refl, sym, ap, ap₂, _∙_, subst}
-use mathlib.Core.Bool.{Bool, true, false, cond, not, _&&_, _||_, true≢false, false≢true}
+use mathlib.Core.Path.{_≡_, refl, sym, ap, ap₂, _∙_}
+use mathlib.Core.Bool.{Bool, true, false, cond, _||_, true≢false}
 use mathlib.Core.List.{List, [], _∷_, _++_, append-assoc}
 use native.Mathlib.Nat.{not-suc-le-zero, le-refl, suc-mul, add-mul, mul-le-mul-right, le-of-suc-le-suc}
 use native.Mathlib.Omega.{arith}
 use native.Mathlib.Numerals.{add-one}
 use lib.Dec.{T, eqb}
-use lib.ListN.{length, getD, take, drop, set, replicate, length-replicate, length-append, length-take, length-drop, take-append-drop, length-set}
-use lib.Seq.{length-take-le, take-at, drop-at, drop-drop, set-split, take-all}
-use borrow.Author.Tests.{leb-true}
+use lib.ListN.{length, getD, take, drop, set, replicate, length-replicate, length-append, length-take, length-drop, take-append-drop}
+use lib.Seq.{length-take-le, drop-at, drop-drop, set-split, take-all}
 use Rattle.lists.specs.Lists.{Words, at, all, flat}
 use Rattle.lists.specs.Totals.{total, one}
-use Rattle.lists.proofs.Truth.{and-fst, and-snd, and-both, eqb→≡, isT, T→≡, false→F, or-inr}
+use Rattle.lists.proofs.Truth.{and-fst, and-snd, and-both, eqb→≡}
 use Rattle.rows.specs.declared.Found.{Found}
 use Rattle.rows.specs.declared.Found.the-variants.{At, Missing}
 use Rattle.rows.specs.Rows.{Row, Rows, cut, smaller, sameRow, notAfter, rising, putRow, hasRow, takeRow}
 use Rattle.rows.specs.Ranks.{rank, foundRow}
 use Rattle.rows.specs.Words.{row, written, putWords, takeWords}
 use Rattle.rows.specs.Regions.{laid, putAt, takeAt, Region, Holds}
-use Rattle.rows.proofs.Ordered.{smaller-greater, order-greater-differs, false-after, after-false, same-refl, same→≡, smaller-itself, antisym, itself}
-use Rattle.rows.proofs.Sorted.{rising-first, rising-rest, rising-cons, rising-none, rising-put, rising-take, all-chain}
-use Rattle.rows.proofs.Cut.{row-fits, cut-length, cut-at, cut-zero, cut-suc, cut-cons, cut-split, cut-front, cut-take, take-cut, drop-cut, flat-cut}
+use Rattle.rows.proofs.Ordered.{smaller-greater, order-greater-differs, false-after, after-false, same-refl}
+use Rattle.rows.proofs.Sorted.{rising-first, rising-rest, rising-cons, rising-put, all-chain}
+use Rattle.rows.proofs.Cut.{row-fits, cut-length, cut-cons, cut-split, cut-take, take-cut, drop-cut, flat-cut}
 use Rattle.rows.proofs.Search.{smaller-falls, passed-below}
-use Rattle.rows.proofs.Ranks.{rank-le, rank-at, place-le, There, found-row, missing-row}
+use Rattle.rows.proofs.Ranks.{place-le, There, found-row, missing-row}
 
 -- Tests of all elements, over parts; these belong to lists
 module _ {A : Type 0} (p : A → Bool) where

@@ -2,12 +2,12 @@
 -- Assumes nothing.
 use Prim.Native.Nat.{ℕ, _+_, _<_, _≤_}
 use mathlib.Core.Path.{_≡_}
-use mathlib.Core.Bool.{cond}
+use mathlib.Core.Bool.{Bool, cond}
 use mathlib.Core.List.{[], _∷_}
 use lib.Dec.{eqb}
 use lib.ListN.{drop}
 use Rattle.lists.specs.Lists.{Words, at}
-use Rattle.rows.specs.Rows.{Row, Rows}
+use Rattle.rows.specs.Rows.{Row, Rows, hasRow, takeRow}
 use Rattle.rows.specs.Ranks.{rank, times}
 
 -- the rows that stay, row i by mark i
@@ -23,3 +23,9 @@ pub record Tally (r : Row) (rows : Rows) (marks : Words) : Type 0 where
 
 abbrev pub Tallied : Rows → Words → Type 0
 Tallied rows marks = (r : Row) → 0 < times r rows → Tally r rows marks
+
+-- What marking one more row that equals r does: it is among the rows that stay or it is not, and then it leaves them
+pub record Marking (r : Row) (rows : Rows) (old new : Words) (done : Bool) : Type 0 where
+  pub left : done ≡ hasRow r (unmarked old rows)
+  pub stay : unmarked new rows ≡ takeRow r (unmarked old rows)
+  pub tallied : Tallied rows new
