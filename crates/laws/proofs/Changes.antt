@@ -104,6 +104,10 @@ found-wide s m p t r r′ =
 abbrev pub sideAfter : Model → ℕ → Effect → Rows
 sideAfter m t x = putRows (x .sideIn) (takeRows (x .sideOut) (rowsOf (m .sides) t))
 
+pub after-other : (m : Model) (t : ℕ) (x : Effect) (u : ℕ) → (u ≡ t → ⊥) → rowsOf (after m t x .sides) u ≡ rowsOf (m .sides) u
+unfolding after
+after-other m t x u d = getD-set-other (m .sides) t u (sideAfter m t x) [] d
+
 still-none : (xs : Rows) → putRows [] (takeRows xs []) ≡ []
 unfolding putRows takeRows takeRow
 still-none [] = refl
@@ -231,11 +235,11 @@ module _ (s : Sheet) (g : Good s) (ws : Words) (c : Change) (ok : T (sound s ws)
   unfolding modelAfter
   after-proper = change-proper s g (modelOf s ws) (sound-proper s g ws ok) c good agree
 
-  pub after-other : (t : ℕ) → (t ≡ c .table → ⊥) → rowsOf (modelAfter s ws c .sides) t ≡ rowsOf (modelOf s ws .sides) t
-  unfolding modelAfter after
-  after-other t d = getD-set-other (modelOf s ws .sides) (c .table) t _ [] d
-
   pub others-stay : T (fits s (modelAfter s ws c)) → (t : ℕ) → t < s .n → (t ≡ c .table → ⊥) → rowsAt s (storeOf s (modelAfter s ws c)) t ≡ rowsAt s ws t
+  unfolding modelAfter
   others-stay fit t l d =
       rows-at s g (modelAfter s ws c) after-proper fit t (omega arith)
-      ∙ part-side (modelAfter s ws c) (s .n) (after-proper .many) t l ∙ after-other t d ∙ model-side s ws t l
+      ∙ part-side (modelAfter s ws c) (s .n) (after-proper .many) t l ∙ side-stays ∙ model-side s ws t l
+    where
+      side-stays : rowsOf (modelAfter s ws c .sides) t ≡ rowsOf (modelOf s ws .sides) t
+      side-stays = after-other (modelOf s ws) (c .table) (effect s (modelOf s ws) c) t d

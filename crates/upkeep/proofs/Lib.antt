@@ -4,3 +4,6 @@ pub mod Tied
 pub mod ByKey
 pub mod Update
 pub mod Step
+pub mod First
+pub mod Second
+pub mod Third
