@@ -10,3 +10,4 @@ pub mod Meanings
 pub mod Through
 pub mod Models
 pub mod Stores
+pub mod Changes

@@ -34,6 +34,11 @@ first-zero (t ∷ ts) h number (inl f) e =
 first-zero (t ∷ ts) h number (inr f) e =
     (f .0, first-zero ts (and-snd (not (eqb (t .number) 0)) (all (λ t. not (eqb (t .number) 0)) ts) h) number (f .1) e)
 
+pub passed-zero : (ts : List Test) (number : ℕ) → Passed ts → First ts number → number ≡ 0
+passed-zero [] number p f = f
+passed-zero (t ∷ ts) number p (inl f) = absurd (f .0 (p .0))
+passed-zero (t ∷ ts) number p (inr f) = passed-zero ts number (p .1) (f .1)
+
 -- past the tests that are passed
 pub first-past : (ts us : List Test) (number : ℕ) → Passed ts → First (ts ++ us) number → First us number
 first-past [] us number p f = f

@@ -1,0 +1,9 @@
+pub mod Replace
+pub mod Insert
+pub mod Tied
+pub mod ByKey
+pub mod Update
+pub mod Step
+pub mod First
+pub mod Second
+pub mod Third

@@ -1,0 +1,111 @@
+-- A row replaced by another with its key and its tied columns: every row stays as qualified as it was. So a lawful update takes the old row's side
+-- row and ways and puts the new row's, by the ways or, where they cannot be taken, by the key.
+-- Assumes nothing.
+use Prim.Native.Nat.{ℕ, zero, suc, _<_}
+use mathlib.Core.Path.{_≡_, refl, sym, ap, _∙_, subst}
+use mathlib.Core.Bool.{Bool, true, false, cond, not, _||_}
+use mathlib.Core.List.{[], _∷_, map}
+use mathlib.Core.Logic.{inl, ⊎-elim}
+use lib.Dec.{T, eqb}
+use lib.ListN.{length, set}
+use Rattle.lists.specs.Lists.{at, all, select}
+use Rattle.lists.specs.Totals.{Same}
+use Rattle.lists.proofs.Truth.{select-same, decided, or-inl, or-inr}
+use Rattle.rows.specs.Rows.{Row, Rows, key, sameRow, hasKey, noKeyTwice}
+use Rattle.meaning.specs.Sheet.{Sheet}
+use Rattle.meaning.specs.Base.{Tables, rowsOf}
+use Rattle.meaning.specs.Meaning.{qualified, qualifiedIn, Model, meaning}
+use Rattle.meaning.specs.Change.{qualifies, canTake, rowsThrough, rowsFound, withColumns, noEffect, updateEffect, foundShow}
+use Rattle.laws.proofs.Lists.{here-or}
+use Rattle.laws.proofs.Sheets.{Good}
+use Rattle.laws.proofs.Qualified.{qualified-same, qualifiedOf}
+use Rattle.laws.proofs.Ways.{wayRows}
+use Rattle.upkeep.proofs.Tied.{Tied, tied-qualified}
+use Rattle.upkeep.proofs.ByKey.{found-same, found-show, found-new}
+use Rattle.upkeep.proofs.Replace.{having, Judges, side-rows-one, side-rows-none, rows-here, rows-other, judges-self, none-unqualified, through-is, Moves, by-qualified}
+
+-- a row for another with its key
+key-swap : (b : Bool) (k : ℕ) (r r′ : Row) (rows : Rows) → key r ≡ key r′ → hasKey k (cond b (r ∷ rows) rows) ≡ hasKey k (cond b (r′ ∷ rows) rows)
+key-swap true k r r′ rows e = ap (λ x. eqb k x || hasKey k rows) e
+key-swap false k r r′ rows e = refl
+
+module _ (s : Sheet) (g : Good s) (A : Tables) (many : length A ≡ s .n) (R : ℕ) (inside : R < s .n) (rest : Rows) (r r′ : Row) (tie : Tied s R r r′) where
+  abbrev X : Row → Tables
+  X x = having A R rest (x ∷ [])
+
+  same-key : (k p x : ℕ) → hasKey x (qualifiedIn s (X r) k p) ≡ hasKey x (qualifiedIn s (X r′) k p)
+  same-key zero p x = refl
+  same-key (suc k) p x =
+      ap (hasKey x) (select-same old new (rowsOf (X r) p) (λ y m.
+      qualified-same s (qualifiedIn s (X r) k) (qualifiedIn s (X r′) k) p y (λ e q. same-key k (e .parent) (at y (e .column)))))
+      ∙ here-or (λ u. u ≡ p → hasKey x (select new (rowsOf (X r) u)) ≡ hasKey x (select new (rowsOf (X r′) u))) R p
+      (λ e. ap (λ rows. hasKey x (select new rows)) (rows-here s g A many R inside rest (r ∷ []))
+      ∙ ap (λ b. hasKey x (cond b (r ∷ select new rest) (select new rest))) (tied e)
+      ∙ key-swap (new r′) x r r′ (select new rest) (tie .keys)
+      ∙ ap (λ rows. hasKey x (select new rows)) (sym (rows-here s g A many R inside rest (r′ ∷ []))))
+      (λ d e. ap (λ rows. hasKey x (select new rows)) (rows-other s g A many R inside rest (r ∷ []) p d ∙ sym (rows-other s g A many R inside rest (r′ ∷ []) p d)))
+      refl
+    where
+      old : Row → Bool
+      old = qualified s (qualifiedIn s (X r) k) p
+
+      new : Row → Bool
+      new = qualified s (qualifiedIn s (X r′) k) p
+
+      tied : R ≡ p → new r ≡ new r′
+      tied e =
+          subst (λ (t : ℕ). qualified s (qualifiedIn s (X r′) k) t r ≡ qualified s (qualifiedIn s (X r′) k) t r′) e
+          (tied-qualified s R r r′ tie (qualifiedIn s (X r′) k))
+
+  pub judges-new : Judges s (qualifiedOf s (X r)) (X r′)
+  judges-new t l x m = sym (qualified-same s (qualifiedOf s (X r)) (qualifiedOf s (X r′)) t x (λ e p. same-key (s .n) (e .parent) (at x (e .column))))
+
+  module _ (once : (t : ℕ) → t < s .n → T (noKeyTwice (rowsOf (X r) t))) (new : T (hasKey (key r) rest) → ⊥) where
+    abbrev m : Model
+    m = meaning s (X r)
+
+    F : ℕ → Rows
+    F = qualifiedOf s (X r)
+
+    pub update-moves : Moves s g A many R inside rest (r ∷ []) (r′ ∷ []) (cond (qualifies s m R r) (updateEffect s m R r r′) noEffect)
+    unfolding updateEffect F
+    update-moves =
+        by-qualified s g A many R inside rest (r ∷ []) (Moves s g A many R inside rest (r ∷ []) (r′ ∷ [])) r (updateEffect s m R r r′)
+        (λ q. record {
+          side-out = side-rows-one s F R r q;
+          side-in = side-rows-one s F R r′ (to q);
+          list-out = by-can (canTake s R) (rowsThrough s m R r) (rowsFound s m R r) (wayRows s (set A R (r ∷ [])))
+              (λ can. through-is s g A many R inside rest (r ∷ []) (r ∷ []) own r (inl refl) q can)
+              (λ cannot. found-same s g A many R inside rest r once new cannot);
+          list-in = by-can (canTake s R) (rowsThrough s m R r′) (map (withColumns (s .listed) R r′) (rowsFound s m R r)) (wayRows s (set A R (r′ ∷ [])))
+              (λ can. through-is s g A many R inside rest (r ∷ []) (r′ ∷ []) judges-new r′ (inl refl) (to q) can)
+              (λ cannot. found-new s g A many R inside rest r once new cannot r′ tie);
+        })
+        (λ q. record {
+          side-out = side-rows-none s F R r q;
+          side-in = side-rows-none s F R r′ (λ h. q (from-new h));
+          list-out = none-unqualified s g A many R inside rest F (r ∷ []) own r (inl refl) q;
+          list-in = none-unqualified s g A many R inside rest F (r′ ∷ []) judges-new r′ (inl refl) (λ h. q (from-new h));
+        })
+      where
+        own : Judges s F (X r)
+        own = judges-self s g A many R inside rest (r ∷ [])
+
+        to : T (qualified s F R r) → T (qualified s F R r′)
+        to q = subst T (tied-qualified s R r r′ tie F) q
+
+        from-new : T (qualified s F R r′) → T (qualified s F R r)
+        from-new q = subst T (sym (tied-qualified s R r r′ tie F)) q
+
+        by-can : (b : Bool) (xs ys zs : Rows) → (T b → Same xs zs) → ((T b → ⊥) → Same ys zs) → Same (cond b xs ys) zs
+        by-can true xs ys zs h k = h tt
+        by-can false xs ys zs h k = k (λ i. i)
+
+    -- the list rows found by key show the old row's values
+    pub update-show : T (foundShow s m R r)
+    unfolding foundShow
+    update-show =
+        let a = not (qualifies s m R r) in
+        let show = all (λ row. sameRow row (withColumns (s .listed) R r row)) (rowsFound s m R r) in
+        ⊎-elim (λ k. or-inl (a || canTake s R) show (or-inr a (canTake s R) k))
+        (λ k. or-inr (a || canTake s R) show (found-show s g A many R inside rest r once new k)) (decided (canTake s R))
