@@ -1,0 +1,5 @@
+pub mod Splices
+pub mod Parts
+pub mod Models
+pub mod Stands
+pub mod Writes
