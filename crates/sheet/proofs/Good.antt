@@ -1,0 +1,112 @@
+-- What a verdict says of the words, and the ways through `tree_ok` and `verdict_of`.
+-- Assumes nothing.
+use Prim.Native.Nat.{ℕ, _-_, _≤_}
+use mathlib.Core.Path.{_≡_, refl, sym, ap, ap₂, _∙_}
+use mathlib.Core.Bool.{Bool, true, false, cond, _&&_}
+use native.Mathlib.Omega.{arith}
+use lib.Dec.{eqb, leb}
+use lib.ListN.{length}
+use borrow.Author.Tests.{eqb-true}
+use Rattle.lists.specs.Lists.{Words, at, all, select, upTo}
+use Rattle.lists.specs.Loops.{every}
+use Rattle.lists.proofs.Loops.{and-true}
+use Rattle.meaning.specs.Answers.{unless}
+use Rattle.meaning.specs.Sheet.{Sheet, sheetOf, edgesInto, isRoot, reached, goodCounts, goodWords, goodTree, sheetRefusal}
+use Rattle.words.specs.Counted.{counted}
+use Rattle.words.specs.Rules.{Rules}
+use Rattle.words.proofs.Numbers.{all-upTo, length-upTo}
+use Rattle.words.proofs.Words.{n-is}
+use Rattle.words.proofs.Facts.{counts-facts, rules}
+use Rattle.sheet.specs.Tree.{oneInto, rootNo, reachedNo, Joined}
+use Rattle.sheet.specs.Verdicts.{verdictOf, numberOf}
+use Rattle.sheet.specs.declared.Verdict.the-variants.{Good, Refused}
+use Rattle.sheet.proofs.Into.{joined}
+
+-- all of refusal 3, by number
+pub tree-are : (ws : Words) → Rules ws → goodTree (sheetOf ws)
+    ≡ (eqb (counted (rootNo ws) (at ws 0)) 1 && every (oneInto ws) (at ws 0) && every (reachedNo ws (at ws 1)) (at ws 0))
+unfolding goodTree rootNo oneInto reachedNo
+tree-are ws r =
+    ap₂ _&&_
+    (ap₂ _&&_ (ap (λ (n : ℕ). eqb (length (select (isRoot s) (upTo n))) 1) (n-is ws) ∙ ap (λ (k : ℕ). eqb k 1) (length-upTo (isRoot s) (at ws 0)))
+    (ap (λ (n : ℕ). all one (upTo n)) (n-is ws) ∙ all-upTo one (at ws 0)))
+    (ap₂ (λ (k n : ℕ). all (reached s k) (upTo n)) last (n-is ws) ∙ all-upTo (reached s (at ws 1)) (at ws 0))
+  where
+    s : Sheet
+    s = sheetOf ws
+
+    one : ℕ → Bool
+    one t = leb (length (edgesInto s t)) 1
+
+    last : s .n - 1 ≡ at ws 1
+    last = omega (arith, n-is ws, r .counts .edges-right)
+
+module _ (ws : Words) where
+  pub refused-1 : goodCounts ws ≡ false → Refused 1 ≡ verdictOf ws
+  unfolding verdictOf sheetRefusal
+  refused-1 a = rw a
+
+  pub refused-2 : goodCounts ws ≡ true → goodWords (sheetOf ws) ≡ false → Refused 2 ≡ verdictOf ws
+  unfolding verdictOf sheetRefusal
+  refused-2 a b = rw (a, b)
+
+  pub refused-3 : goodCounts ws ≡ true → goodWords (sheetOf ws) ≡ true → goodTree (sheetOf ws) ≡ false → Refused 3 ≡ verdictOf ws
+  unfolding verdictOf sheetRefusal
+  refused-3 a b c = rw (a, b, c)
+
+  pub passed : goodCounts ws ≡ true → goodWords (sheetOf ws) ≡ true → goodTree (sheetOf ws) ≡ true → Good ≡ verdictOf ws
+  unfolding verdictOf sheetRefusal
+  passed a b c = rw (a, b, c)
+
+  -- a verdict is good exactly if the refusal is 0, and its number is the refusal
+  pub good-zero : verdictOf ws ≡ Good → sheetRefusal ws ≡ 0
+  unfolding verdictOf
+  good-zero h = go (eqb (sheetRefusal ws) 0) refl h
+    where
+      go : (b : Bool) → eqb (sheetRefusal ws) 0 ≡ b → cond b Good (Refused (sheetRefusal ws)) ≡ Good → sheetRefusal ws ≡ 0
+      go true e q = eqb-true _ _ e
+      go false e q = absurd (let z : _≡_ {A = ℕ} 0 1 = cc in omega arith)
+
+  pub zero-good : sheetRefusal ws ≡ 0 → verdictOf ws ≡ Good
+  unfolding verdictOf
+  zero-good h = rw h
+
+  pub number-is : numberOf (verdictOf ws) ≡ sheetRefusal ws
+  unfolding verdictOf
+  number-is = go (eqb (sheetRefusal ws) 0) refl
+    where
+      go : (b : Bool) → eqb (sheetRefusal ws) 0 ≡ b → numberOf (cond b Good (Refused (sheetRefusal ws))) ≡ sheetRefusal ws
+      go true e = sym (eqb-true _ _ e)
+      go false e = refl
+
+  -- a refusal is one of three
+  pub refusal-small : sheetRefusal ws ≤ 3
+  unfolding sheetRefusal
+  refusal-small = go (goodCounts ws) (goodWords (sheetOf ws)) (goodTree (sheetOf ws))
+    where
+      go : (a b c : Bool) → unless a 1 (unless b 2 (unless c 3 0)) ≤ 3
+      go true true true = omega arith
+      go true true false = omega arith
+      go true false c = omega arith
+      go false b c = omega arith
+
+  -- the three tests that a good sheet passes
+  pub good-tests : sheetRefusal ws ≡ 0 → (goodCounts ws ≡ true) × ((goodWords (sheetOf ws) ≡ true) × (goodTree (sheetOf ws) ≡ true))
+  unfolding sheetRefusal
+  good-tests h = go (goodCounts ws) (goodWords (sheetOf ws)) (goodTree (sheetOf ws)) h
+    where
+      go : (a b c : Bool) → unless a 1 (unless b 2 (unless c 3 0)) ≡ 0 → (a ≡ true) × ((b ≡ true) × (c ≡ true))
+      go true true true e = (refl, (refl, refl))
+      go true true false e = absurd (omega arith)
+      go true false c e = absurd (omega arith)
+      go false b c e = absurd (omega arith)
+
+  pub good-rules : sheetRefusal ws ≡ 0 → Rules ws
+  good-rules h = let t = good-tests h in rules ws (counts-facts ws (t .0)) (t .1 .0)
+
+  pub good-joined : sheetRefusal ws ≡ 0 → Joined ws
+  good-joined h =
+      let r = good-rules h in
+      let a = and-true _ _ (sym (tree-are ws r) ∙ good-tests h .1 .1) in
+      let b = and-true (eqb (counted (rootNo ws) (at ws 0)) 1) (every (oneInto ws) (at ws 0)) (a .0) in
+      joined ws r (b .1)

@@ -1,0 +1,42 @@
+-- `verdict_of` meets its contract: the three tests are those of `sheetRefusal`, in order.
+-- Assumes nothing.
+use mathlib.Core.Path.{sym, _∙_}
+use borrow.Author.Tests.{not-true, not-false}
+use Rattle.words.proofs.Facts.{counts-facts, rules}
+use Rattle.sheet.proofs.Good.{refused-1, refused-2, refused-3, passed}
+use borrow.Author.Needs.{needs}
+use Rattle.sheet.proofs.verdict_of.Statement.{statement}
+use Rattle.sheet.proofs.verdict_of.Tie as tie
+
+counts-ok-requires : tie.Need-counts-ok-requires
+counts-ok-requires c κs = search needs
+
+returns : tie.Need-returns
+returns c = refused-1 _ (sym (c .before .counts-ok .ensures) ∙ not-true _ (c .if1 .taken))
+
+words-ok-requires : tie.Need-words-ok-requires
+words-ok-requires c κs = counts-facts _ (sym (c .before .counts-ok .ensures) ∙ not-false _ (c .if1 .left))
+
+returns-2 : tie.Need-returns-2
+returns-2 c = refused-2 _ (sym (c .before .before .before .counts-ok .ensures) ∙ not-false _ (c .before .before .if1 .left)) (sym (c .before .words-ok .ensures) ∙ not-true _ (c .if2 .taken))
+
+tree-ok-requires : tie.Need-tree-ok-requires
+tree-ok-requires c κs = rules _ (counts-facts _ (sym (c .before .before .before .counts-ok .ensures) ∙ not-false _ (c .before .before .if1 .left))) (sym (c .before .words-ok .ensures) ∙ not-false _ (c .if2 .left))
+
+returns-3 : tie.Need-returns-3
+returns-3 c = refused-3 _ (sym (c .before .before .before .before .before .counts-ok .ensures) ∙ not-false _ (c .before .before .before .before .if1 .left)) (sym (c .before .before .before .words-ok .ensures) ∙ not-false _ (c .before .before .if2 .left)) (sym (c .before .tree-ok .ensures) ∙ not-true _ (c .if3 .taken))
+
+returns-4 : tie.Need-returns-4
+returns-4 c = passed _ (sym (c .before .before .before .before .before .counts-ok .ensures) ∙ not-false _ (c .before .before .before .before .if1 .left)) (sym (c .before .before .before .words-ok .ensures) ∙ not-false _ (c .before .before .if2 .left)) (sym (c .before .tree-ok .ensures) ∙ not-false _ (c .if3 .left))
+
+pub verdict-of-spec : {M : Type 1} → statement M
+verdict-of-spec =
+    tie.close
+    (tie.spec
+    counts-ok-requires
+    returns
+    words-ok-requires
+    returns-2
+    tree-ok-requires
+    returns-3
+    returns-4)

@@ -1,0 +1,31 @@
+-- The tests of refusal 3 by number: which edges go into a table, which table is a root, which is reached.
+-- Assumes nothing.
+use Prim.Native.Nat.{ℕ, _<_, _≤_}
+use mathlib.Core.Bool.{Bool}
+use lib.Dec.{leb}
+use lib.ListN.{length}
+use Rattle.lists.specs.Lists.{Words, at}
+use Rattle.meaning.specs.Sheet.{sheetOf, goesInto, edgesInto, isRoot, reached}
+use Rattle.words.specs.Numbered.{edgeNo}
+use Rattle.words.specs.Rules.{Rules}
+
+-- edge i goes into table t
+unfoldable pub goesNo : Words → ℕ → ℕ → Bool
+goesNo ws t i = goesInto t (edgeNo ws i)
+
+-- at most one edge goes into table t
+unfoldable pub oneInto : Words → ℕ → Bool
+oneInto ws t = leb (length (edgesInto (sheetOf ws) t)) 1
+
+-- table t has no edge into it
+unfoldable pub rootNo : Words → ℕ → Bool
+rootNo ws t = isRoot (sheetOf ws) t
+
+-- table t is reached in at most k edges
+unfoldable pub reachedNo : Words → ℕ → ℕ → Bool
+reachedNo ws k t = reached (sheetOf ws) k t
+
+-- the words are within their rules, and at most one edge goes into each table: there is one path to walk
+pub record Joined (ws : Words) : Type 0 where
+  pub rules : Rules ws
+  pub one-into : (t : ℕ) → t < at ws 0 → length (edgesInto (sheetOf ws) t) ≤ 1

@@ -1,0 +1,4 @@
+pub mod Counted
+pub mod Numbered
+pub mod Tests
+pub mod Rules
