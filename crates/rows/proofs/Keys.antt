@@ -4,17 +4,16 @@ use Prim.Native.Nat.{ℕ, zero, suc, _+_, _<_, _≤_, zero-le, suc-le-suc}
 use mathlib.Core.Path.{_≡_, refl, sym, ap, ap₂, _∙_, subst}
 use mathlib.Core.Bool.{Bool, true, false, cond, not, _&&_, _||_, true≢false}
 use mathlib.Core.List.{List, [], _∷_, map}
-use mathlib.Core.Logic.{inl, inr}
 use native.Mathlib.Nat.{not-suc-le-zero, le-of-suc-le-suc}
 use native.Mathlib.Omega.{arith}
 use lib.Dec.{T, ltb, eqb, ltb→lt, lt→ltb}
 use lib.ListN.{length, getD, set}
 use lib.Seq.{map-set-same}
-use borrow.Author.Tests.{ne-eqb, eq-eqb, lt-ltb}
-use Rattle.lists.specs.Lists.{all, any, select, noneTwice}
+use borrow.Author.Tests.{ne-eqb, eq-eqb}
+use Rattle.lists.specs.Lists.{all, any, select}
 use Rattle.lists.specs.Totals.{total}
 use Rattle.lists.proofs.Totals.{total-cons}
-use Rattle.lists.proofs.Truth.{Mem, isT, T→≡, F→≡, F→not, not→F, false→F, same-test, and-fst, and-snd, and-both, all-get, all-make, any-get, any-make, mem-map, map-mem, mem-getD, eq→eqb, eqb→≡, or-inr}
+use Rattle.lists.proofs.Truth.{Mem, F→≡, F→not, not→F, false→F, same-test, and-fst, and-snd, and-both, all-get, all-make, any-get, any-make, mem-map, map-mem, mem-getD, eq→eqb, eqb→≡}
 use Rattle.rows.specs.Rows.{Row, Rows, key, rowOrder, thenBy, isLess, smaller, notAfter, rising, putRow, takeRow, hasKey, noKeyTwice}
 use Rattle.rows.specs.Ranks.{rankKey}
 use Rattle.rows.specs.Regions.{keysRise}
@@ -22,7 +21,7 @@ use Rattle.rows.proofs.Ordered.{Compared, lt, eq, gt, compared, word-le
 use Rattle.rows.proofs.Sorted.{rising-first, rising-rest, rising-cons, rising-put, rising-take, same-rising, total-put, same-take}
 use Rattle.rows.proofs.Search.{key-up}
 use Rattle.rows.proofs.Ranks.{mem-at, rankKey-at, There}
-use Rattle.rows.proofs.Pairs.{pairs, pairs-at, keyLess, keys-pairs}
+use Rattle.rows.proofs.Pairs.{pairs-at, keyLess, keys-pairs}
 
 pub key-smaller : (r s : Row) → key r < key s → smaller r s ≡ true
 unfolding smaller rowOrder thenBy isLess

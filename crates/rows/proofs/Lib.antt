@@ -9,3 +9,5 @@ pub mod Regions
 pub mod Marks
 pub mod Pairs
 pub mod Keys
+pub mod Takes
+pub mod Sound

@@ -186,7 +186,7 @@ stays-at r (m ∷ marks) (q ∷ rows) h = go (eqb m 0) refl h (λ k. stays-at r 
         here (inr k) = let p = ih k in (suc (p .0), suc-le-suc (p .1), p .2, p .3)
     go false e h ih = let p = ih h in (suc (p .0), suc-le-suc (p .1), p .2, p .3)
 
-at-next : (marks : Words) (i : ℕ) → at (drop 1 marks) i ≡ at marks (suc i)
+pub at-next : (marks : Words) (i : ℕ) → at (drop 1 marks) i ≡ at marks (suc i)
 at-next [] i = refl
 at-next (m ∷ marks) i = refl
 

@@ -1,14 +1,14 @@
 -- Neighbours in order: where an order is transitive and each row stands to the next, each row stands to every later one.
 -- Assumes nothing.
 use Prim.Native.Nat.{ℕ, zero, suc, _+_, _-_, _*_, _<_, _≤_, suc-le-suc, zero-le}
-use mathlib.Core.Path.{_≡_, refl, sym, ap, ap₂, _∙_, subst}
+use mathlib.Core.Path.{_≡_, refl, sym, ap, _∙_, subst}
 use mathlib.Core.Bool.{Bool, true, false, _&&_}
 use mathlib.Core.List.{[], _∷_, _++_}
 use mathlib.Core.Logic.{_⊎_, ⊎-elim}
-use native.Mathlib.Nat.{not-suc-le-zero, le-of-suc-le-suc, eq-or-lt-of-le, suc-mul}
+use native.Mathlib.Nat.{not-suc-le-zero, le-of-suc-le-suc, eq-or-lt-of-le}
 use native.Mathlib.Omega.{arith}
 use lib.Dec.{T, ltb}
-use lib.ListN.{length, getD, take, drop}
+use lib.ListN.{length, getD, drop}
 use Rattle.lists.specs.Lists.{Words, at, all}
 use Rattle.lists.proofs.Truth.{isT, T→≡, F→≡, false→F, and-fst, and-snd, and-both, all-get, mem-getD}
 use Rattle.rows.specs.Rows.{Row, Rows, key, cut, notAfter, rising}
@@ -21,11 +21,12 @@ split i n h = eq-or-lt-of-le h
 
 module _ (R : Row → Row → Bool) where
   -- each row stands so to every later one
-  abbrev pub pairs : Rows → Bool
+  unfoldable pub pairs : Rows → Bool
   pairs [] = true
   pairs (r ∷ rows) = all (R r) rows && pairs rows
 
   pub pairs-at : (rows : Rows) → T (pairs rows) → (i j : ℕ) → i < j → j < length rows → T (R (getD rows i []) (getD rows j []))
+  unfolding pairs
   pairs-at [] h i j l m = absurd (not-suc-le-zero m)
   pairs-at (r ∷ rows) h i zero l m = absurd (not-suc-le-zero l)
   pairs-at (r ∷ rows) h zero (suc j) l m = all-get (R r) rows (and-fst (all (R r) rows) (pairs rows) h) (getD rows j []) (mem-getD [] rows j (le-of-suc-le-suc m))
@@ -36,6 +37,7 @@ module _ (R : Row → Row → Bool) where
   all-snoc p (r ∷ rows) x h k = and-both (p r) (all p (rows ++ (x ∷ []))) (and-fst (p r) (all p rows) h) (all-snoc p rows x (and-snd (p r) (all p rows) h) k)
 
   pairs-snoc : (rows : Rows) (x : Row) → T (pairs rows) → ((i : ℕ) → i < length rows → T (R (getD rows i []) x)) → T (pairs (rows ++ (x ∷ [])))
+  unfolding pairs
   pairs-snoc [] x h k = tt
   pairs-snoc (r ∷ rows) x h k =
       and-both (all (R r) (rows ++ (x ∷ []))) (pairs (rows ++ (x ∷ []))) (all-snoc (R r) rows x (and-fst (all (R r) rows) (pairs rows) h) (k 0 (suc-le-suc zero-le)))
@@ -44,6 +46,7 @@ module _ (R : Row → Row → Bool) where
   -- over a run of words: one row, one row more, and two neighbours out of order
   module _ (w : ℕ) (s : Words) where
     pub pairs-one : pairs (cut w 1 s) ≡ true
+    unfolding pairs
     pairs-one = rw (cut-suc w 0 s, cut-zero w (drop w s))
 
     pub pairs-more : ((a b c : Row) → T (R a b) → T (R b c) → T (R a c)) → (i : ℕ) → 0 < i → pairs (cut w i s) ≡ true
@@ -67,8 +70,15 @@ module _ (R : Row → Row → Bool) where
         F→≡ (pairs (cut w n s)) (λ h.
         false→F e (rw (← cut-at w n s i l, ← cut-at w n s (i - 1) (omega arith)) (pairs-at (cut w n s) h (i - 1) i (omega arith) (rw cut-length l))))
 
+    pub pairs-end : (i n : ℕ) → n ≤ i → i ≤ n → pairs (cut w i s) ≡ true → pairs (cut w n s) ≡ true
+    pairs-end i n a b h = let e : i ≡ n = omega arith in subst (λ (k : ℕ). pairs (cut w k s) ≡ true) e h
+
+    pub pairs-none : (n : ℕ) → n ≡ 0 → pairs (cut w n s) ≡ true
+    unfolding pairs
+    pairs-none n e = rw (e, cut-zero w s)
+
 pub rising-pairs : (rows : Rows) → rising rows ≡ pairs notAfter rows
-unfolding rising
+unfolding pairs rising
 rising-pairs [] = refl
 rising-pairs (r ∷ rows) = ap (λ b. all (notAfter r) rows && b) (rising-pairs rows)
 
@@ -76,6 +86,6 @@ abbrev pub keyLess : Row → Row → Bool
 keyLess r s = ltb (key r) (key s)
 
 pub keys-pairs : (rows : Rows) → keysRise rows ≡ pairs keyLess rows
-unfolding keysRise
+unfolding pairs keysRise
 keys-pairs [] = refl
 keys-pairs (r ∷ rows) = ap (λ b. all (keyLess r) rows && b) (keys-pairs rows)

@@ -1,0 +1,154 @@
+-- Many rows taken out or put in: how often each row is left, so that their order does not matter; and rows taken by a test.
+-- Assumes nothing.
+use Prim.Native.Nat.{ℕ, suc, _+_, _-_, _<_, _≤_, zero-le, suc-le-suc}
+use mathlib.Core.Path.{_≡_, refl, sym, ap, ap₂, _∙_, subst}
+use mathlib.Core.Bool.{Bool, true, false, cond, not, _&&_}
+use mathlib.Core.List.{[], _∷_, _++_}
+use native.Mathlib.Omega.{arith}
+use lib.Dec.{T, eqb}
+use lib.ListN.{length, getD, drop}
+use borrow.Author.Tests.{lt-ltb}
+use Rattle.lists.specs.Lists.{Words, at, all, any, select}
+use Rattle.lists.specs.Totals.{total, one, Same}
+use Rattle.lists.proofs.Truth.{isT, same-test, and-fst, and-snd, and-both}
+use Rattle.lists.proofs.Totals.{total-cons, total-length, all-of}
+use Rattle.rows.specs.Rows.{Row, Rows, sameRow, notAfter, rising, putRow, putRows, hasRow, hasRows, takeRow, takeRows}
+use Rattle.rows.specs.Ranks.{times}
+use Rattle.rows.specs.Marks.{unmarked}
+use Rattle.rows.proofs.Ordered.{same→≡, same-refl}
+use Rattle.rows.proofs.Sorted.{rising-first, rising-rest, rising-cons, rising-takes, all-takeRow, total-put, total-puts, same-times, same-rising, same-takes}
+use Rattle.rows.proofs.Ranks.{has-times}
+use Rattle.rows.proofs.Marks.{at-next}
+
+-- How often a row is left
+pub times-take : (q r : Row) (rows : Rows) → times q (takeRow r rows) ≡ times q rows - one (sameRow q r)
+unfolding times total takeRow
+times-take q r [] = omega arith
+times-take q r (s ∷ rows) = go (sameRow r s) refl (times-take q r rows)
+  where
+    go : (b : Bool) → sameRow r s ≡ b → times q (takeRow r rows) ≡ times q rows - one (sameRow q r)
+        → times q (cond b rows (s ∷ takeRow r rows)) ≡ one (sameRow q s) + times q rows - one (sameRow q r)
+    go true e ih = let same : one (sameRow q s) ≡ one (sameRow q r) = ap (λ x. one (sameRow q x)) (sym (same→≡ r s (isT e))) in omega arith
+    go false e ih = other (sameRow q r) refl ih
+      where
+        other : (c : Bool) → sameRow q r ≡ c → times q (takeRow r rows) ≡ times q rows - one c → one (sameRow q s) + times q (takeRow r rows) ≡ one (sameRow q s) + times q rows - one c
+        other true g ih = let d : one (sameRow q s) ≡ 0 = ap one (ap (λ x. sameRow x s) (same→≡ q r (isT g)) ∙ e) in omega arith
+        other false g ih = omega arith
+
+pub times-takes : (q : Row) (xs rows : Rows) → times q (takeRows xs rows) ≡ times q rows - times q xs
+unfolding times total takeRows
+times-takes q [] rows = omega arith
+times-takes q (x ∷ xs) rows = omega (arith, times-takes q xs (takeRow x rows), times-take q x rows)
+
+-- so what is taken may be taken in any order
+pub takes-same : (xs ys rows : Rows) → T (rising rows) → Same xs ys → takeRows xs rows ≡ takeRows ys rows
+unfolding times
+takes-same xs ys rows u h =
+    same-times _ _ (rising-takes xs rows u) (rising-takes ys rows u)
+    (λ q. times-takes q xs rows ∙ ap (λ k. times q rows - k) (h (λ s. one (sameRow q s))) ∙ sym (times-takes q ys rows))
+
+-- rows stand among others as often exactly if each does
+pub has-count : (xs rows : Rows) → T (hasRows xs rows) → (q : Row) → times q xs ≤ times q rows
+unfolding times
+has-count xs rows h q = omega (arith, same-takes xs rows h (λ s. one (sameRow q s)))
+
+pub count-has : (xs rows : Rows) → ((q : Row) → times q xs ≤ times q rows) → T (hasRows xs rows)
+unfolding hasRows times total
+count-has [] rows h = tt
+count-has (x ∷ xs) rows h =
+    let one-x : one (sameRow x x) ≡ 1 = ap one (same-refl x) in
+    let has : hasRow x rows ≡ true = has-times x rows ∙ lt-ltb 0 (times x rows) (omega (arith, h x)) in
+    and-both (hasRow x rows) (hasRows xs (takeRow x rows)) (isT has) (count-has xs (takeRow x rows) (λ q. omega (arith, h q, times-take q x rows)))
+
+pub has-same : (xs ys rows : Rows) → Same xs ys → hasRows xs rows ≡ hasRows ys rows
+unfolding times
+has-same xs ys rows h =
+    same-test (hasRows xs rows) (hasRows ys rows)
+    (λ k. count-has ys rows (λ q. subst (λ (n : ℕ). n ≤ times q rows) (same q) (has-count xs rows k q)))
+    (λ k. count-has xs rows (λ q. subst (λ (n : ℕ). n ≤ times q rows) (sym (same q)) (has-count ys rows k q)))
+  where
+    same : (q : Row) → times q xs ≡ times q ys
+    same q = h (λ s. one (sameRow q s))
+
+-- One row more at the end
+pub takes-snoc : (xs : Rows) (r : Row) (rows : Rows) → takeRows (xs ++ (r ∷ [])) rows ≡ takeRow r (takeRows xs rows)
+unfolding takeRows
+takes-snoc [] r rows = refl
+takes-snoc (x ∷ xs) r rows = takes-snoc xs r (takeRow x rows)
+
+pub has-snoc : (xs : Rows) (r : Row) (rows : Rows) → hasRows (xs ++ (r ∷ [])) rows ≡ (hasRows xs rows && hasRow r (takeRows xs rows))
+unfolding takeRows hasRows
+has-snoc [] r rows = last (hasRow r rows)
+  where
+    last : (b : Bool) → (b && true) ≡ (true && b)
+    last true = refl
+    last false = refl
+has-snoc (x ∷ xs) r rows = ap (λ b. hasRow x rows && b) (has-snoc xs r (takeRow x rows)) ∙ assoc (hasRow x rows) (hasRows xs (takeRow x rows)) (hasRow r (takeRows xs (takeRow x rows)))
+  where
+    assoc : (a b c : Bool) → (a && (b && c)) ≡ ((a && b) && c)
+    assoc true b c = refl
+    assoc false b c = refl
+
+-- Lengths
+pub length-puts : (xs rows : Rows) → length (putRows xs rows) ≡ length xs + length rows
+length-puts xs rows = sym (total-length (putRows xs rows)) ∙ total-puts (λ x. 1) xs rows ∙ ap₂ _+_ (total-length xs) (total-length rows)
+
+pub length-takes : (xs rows : Rows) → T (hasRows xs rows) → length xs + length (takeRows xs rows) ≡ length rows
+length-takes xs rows h = ap₂ _+_ (sym (total-length xs)) (sym (total-length (takeRows xs rows))) ∙ sym (same-takes xs rows h (λ x. 1)) ∙ total-length rows
+
+-- Tests of all rows
+pub all-puts : (p : Row → Bool) (xs rows : Rows) → T (all p xs) → T (all p rows) → T (all p (putRows xs rows))
+unfolding putRows
+all-puts p [] rows h k = k
+all-puts p (x ∷ xs) rows h k =
+    subst T (sym (all-of p (putRow x (putRows xs rows)) (x ∷ putRows xs rows) (λ f. total-put f x (putRows xs rows) ∙ sym (total-cons f x (putRows xs rows)))))
+    (and-both (p x) (all p (putRows xs rows)) (and-fst (p x) (all p xs) h) (all-puts p xs rows (and-snd (p x) (all p xs) h) k))
+
+pub all-takes : (p : Row → Bool) (xs rows : Rows) → T (all p rows) → T (all p (takeRows xs rows))
+unfolding takeRows
+all-takes p [] rows h = h
+all-takes p (x ∷ xs) rows h = all-takes p xs (takeRow x rows) (all-takeRow p x rows h)
+
+-- Rows taken by a test: those that fail it stay
+all-select : (q p : Row → Bool) (rows : Rows) → T (all q rows) → T (all q (select p rows))
+all-select q p [] h = h
+all-select q p (r ∷ rows) h = go (p r) (all-select q p rows (and-snd (q r) (all q rows) h))
+  where
+    go : (b : Bool) → T (all q (select p rows)) → T (all q (cond b (r ∷ select p rows) (select p rows)))
+    go true ih = and-both (q r) (all q (select p rows)) (and-fst (q r) (all q rows) h) ih
+    go false ih = ih
+
+pub rising-select : (p : Row → Bool) (rows : Rows) → T (rising rows) → T (rising (select p rows))
+rising-select p [] u = u
+rising-select p (r ∷ rows) u = go (p r) (rising-select p rows (rising-rest r rows u))
+  where
+    go : (b : Bool) → T (rising (select p rows)) → T (rising (cond b (r ∷ select p rows) (select p rows)))
+    go true ih = rising-cons r (select p rows) (all-select (notAfter r) p rows (rising-first r rows u)) ih
+    go false ih = ih
+
+two-parts : (f : Row → ℕ) (p : Row → Bool) (rows : Rows) → total f rows ≡ total f (select p rows) + total f (select (λ r. not (p r)) rows)
+unfolding total
+two-parts f p [] = refl
+two-parts f p (r ∷ rows) = go (p r) (two-parts f p rows)
+  where
+    go : (b : Bool) → total f rows ≡ total f (select p rows) + total f (select (λ r. not (p r)) rows)
+        → f r + total f rows ≡ total f (cond b (r ∷ select p rows) (select p rows)) + total f (cond (not b) (r ∷ select (λ r. not (p r)) rows) (select (λ r. not (p r)) rows))
+    go true ih = omega arith
+    go false ih = omega arith
+
+pub has-select : (p : Row → Bool) (rows : Rows) → T (hasRows (select p rows) rows)
+unfolding times
+has-select p rows = count-has (select p rows) rows (λ q. omega (arith, two-parts (λ s. one (sameRow q s)) p rows))
+
+pub takes-select : (p : Row → Bool) (rows : Rows) → T (rising rows) → takeRows (select p rows) rows ≡ select (λ r. not (p r)) rows
+takes-select p rows u =
+    same-rising _ _ (rising-takes (select p rows) rows u) (rising-select (λ r. not (p r)) rows u)
+    (λ f. omega (arith, same-takes (select p rows) rows (has-select p rows) f, two-parts f p rows))
+
+-- marks that are set by a test
+pub unmarked-select : (p : Row → Bool) (marks : Words) (rows : Rows) → ((i : ℕ) → i < length rows → eqb (at marks i) 0 ≡ not (p (getD rows i [])))
+    → unmarked marks rows ≡ select (λ r. not (p r)) rows
+unfolding unmarked
+unmarked-select p marks [] h = refl
+unmarked-select p marks (r ∷ rows) h =
+    rw (h 0 (suc-le-suc zero-le), unmarked-select p (drop 1 marks) rows (λ i l. rw (at-next marks i) (h (suc i) (suc-le-suc l))))
