@@ -44,7 +44,7 @@ lawful-tied s B c h =
     c (lawful-good s B c h) h
 
 -- a number is 0 or a refusal
-zero-or : (P : Type 0) (number : ℕ) → (number ≡ 0 → P) → (Refused number → P) → P
+pub zero-or : (P : Type 0) (number : ℕ) → (number ≡ 0 → P) → (Refused number → P) → P
 zero-or P number h k = ⊎-elim (λ e. h (eqb→≡ number 0 e)) (λ d. k (λ e. d (eq→eqb e))) (decided (eqb number 0))
 
 module _ (sheet : Words) (p : Passed (sheetTests sheet)) where
