@@ -25,7 +25,7 @@ use Rattle.laws.proofs.Lists.{by-set, apart}
 use Rattle.laws.proofs.Sheets.{Good}
 use Rattle.laws.proofs.Columns.{columns-side, columns-list, key-pick, list-row-length, with-length}
 use Rattle.laws.proofs.Keys.{once-put, once-take, key-gone, wide-map, wide-get, wide-puts, wide-takes}
-use Rattle.laws.proofs.Models.{part-side, part-list, by-part, Proper, rows-at}
+use Rattle.laws.proofs.Models.{part-side, part-list, by-part, Proper, rows-at, model-back, store-sound}
 use Rattle.laws.proofs.Stores.{model-side, sound-proper}
 
 -- a change of a known kind
@@ -63,13 +63,13 @@ by-kind s P insert delete update c h = go (eqb (c .kind) 1) refl (eqb (c .kind) 
     go : (a : Bool) → eqb (c .kind) 1 ≡ a → (b : Bool) → eqb (c .kind) 2 ≡ b → (d : Bool) → eqb (c .kind) 3 ≡ d
         → T (cond a (eqb (length r) 0 && hasWidth s t r′) (cond b (hasWidth s t r && eqb (length r′) 0) (cond d (hasWidth s t r && hasWidth s t r′ && eqb (key r) (key r′)) false))) → P c
     go true e b f d g k =
-        let w = apart (eqb (length r) 0) (hasWidth s t r′ ∷ []) k in
+        let w = apart (eqb (length r) 0 ∷ hasWidth s t r′ ∷ []) k in
         of-kind 1 (isT e) (insert t r r′ inside (eqb→≡ (length r) 0 (w .0)) (eqb→≡ (length r′) (width s t) (w .1 .0)))
     go false e true f d g k =
-        let w = apart (hasWidth s t r) (eqb (length r′) 0 ∷ []) k in
+        let w = apart (hasWidth s t r ∷ eqb (length r′) 0 ∷ []) k in
         of-kind 2 (isT f) (delete t r r′ inside (eqb→≡ (length r) (width s t) (w .0)) (eqb→≡ (length r′) 0 (w .1 .0)))
     go false e false f true g k =
-        let w = apart (hasWidth s t r) (hasWidth s t r′ ∷ eqb (key r) (key r′) ∷ []) k in
+        let w = apart (hasWidth s t r ∷ hasWidth s t r′ ∷ eqb (key r) (key r′) ∷ []) k in
         of-kind 3 (isT g)
         (update t r r′ inside (eqb→≡ (length r) (width s t) (w .0)) (eqb→≡ (length r′) (width s t) (w .1 .0)) (eqb→≡ (key r) (key r′) (w .1 .1 .0)))
     go false e false f false g k = absurd k
@@ -221,7 +221,7 @@ module _ (s : Sheet) (g : Good s) (m : Model) (p : Proper s m) where
       (λ t r r′ l e e′ h. by-qualified t l r (deleteEffect s m t r) (λ q.
       proper-after s m p t l (deleteEffect s m t r) tt (λ k. refl) (once-out s g m p t l r) tt))
       (λ t r r′ l e e′ k h. by-qualified t l r (updateEffect s m t r r′) (λ q.
-      let old = apart (oldRow s m t r) (foundShow s m t r ∷ hasRows (effect s m (made 3 t r r′) .listOut) (m .list) ∷ []) h in
+      let old = apart (oldRow s m t r ∷ foundShow s m t r ∷ hasRows (effect s m (made 3 t r r′) .listOut) (m .list) ∷ []) h in
       proper-after s m p t l (updateEffect s m t r r′) (side-row-wide s t r′ l) (side-row-none s t r′) (once-swap s g m p t l r r′ k q (old .0))
       (by-can (canTake s t) (rowsThrough s m t r′) (map (withColumns (s .listed) t r′) (rowsFound s m t r)) (through-wide s m t r′) (found-wide s m p t r r′))))
     where
@@ -234,6 +234,12 @@ module _ (s : Sheet) (g : Good s) (ws : Words) (c : Change) (ok : T (sound s ws)
   pub after-proper : Proper s (modelAfter s ws c)
   unfolding modelAfter
   after-proper = change-proper s g (modelOf s ws) (sound-proper s g ws ok) c good agree
+
+  pub after-sound : T (fits s (modelAfter s ws c)) → T (sound s (storeOf s (modelAfter s ws c)))
+  after-sound fit = store-sound s g (modelAfter s ws c) after-proper fit
+
+  pub after-back : T (fits s (modelAfter s ws c)) → modelOf s (storeOf s (modelAfter s ws c)) ≡ modelAfter s ws c
+  after-back fit = model-back s g (modelAfter s ws c) after-proper fit
 
   pub others-stay : T (fits s (modelAfter s ws c)) → (t : ℕ) → t < s .n → (t ≡ c .table → ⊥) → rowsAt s (storeOf s (modelAfter s ws c)) t ≡ rowsAt s ws t
   unfolding modelAfter

@@ -29,6 +29,7 @@ use Rattle.laws.proofs.Keys.{once-sorted, once-map, once-select, wide-m
 use Rattle.laws.proofs.Qualified.{qualifiedOf, qualified-is, side-kept, side-unkept}
 use Rattle.laws.proofs.Ways.{wayRows, list-rising}
 use Rattle.laws.proofs.Meanings.{Lawful, meaning-many, meaning-side, meaning-list}
+use Rattle.laws.proofs.Sound.{Sound, sound-get}
 use Rattle.laws.proofs.Models.{part-side, by-part, Proper, fits-make}
 
 -- where a part begins, and that it ends within the store
@@ -42,45 +43,6 @@ part-inside s part l =
     let e : size s (0 + part) ≡ size s part = ap (size s) (zero-add part) in
     let h : part < s .n + 1 = omega arith in
     omega (arith, sum-front (size s) (s .n + 1) 0 part h)
-
--- what a sound store is
-pub record Sound (s : Sheet) (ws : Words) : Type 0 where
-  pub long : length ws ≡ storeLength s
-  pub absent : (t : ℕ) → s .n ≤ t → t < 8 → at ws t ≡ 0
-  pub within : (part : ℕ) → part ≤ s .n → count s ws part ≤ room s part
-  pub in-order : (part : ℕ) → part ≤ s .n → T (rising (rowsAt s ws part))
-  pub unused : (part : ℕ) → part ≤ s .n → T (all (eqb 0) (drop (count s ws part * columns s part) (partWords s ws part)))
-  pub unkept : (t : ℕ) → t < s .n → (T (kept s t) → ⊥) → count s ws t ≡ 0
-  pub once : (t : ℕ) → t < s .n → T (noKeyTwice (rowsAt s ws t))
-
-pub sound-get : (s : Sheet) (ws : Words) → T (sound s ws) → Sound s ws
-unfolding sound soundPart soundTable
-sound-get s ws h =
-    record {
-      long = eqb→≡ (length ws) (storeLength s) (tests .0);
-      absent = λ t l k. eqb→≡ (at ws t) 0 (all-get (λ t. eqb (at ws t) 0) (from (s .n) (8 - s .n)) (tests .1 .0) t (mem-from (s .n) (8 - s .n) t l (omega arith)));
-      within = λ part l. leb→le (count s ws part) (room s part) (of-part part l .0);
-      in-order = λ part l. of-part part l .1 .0;
-      unused = λ part l. of-part part l .1 .1 .0;
-      unkept = λ t l k. eqb→≡ (count s ws t) 0 (⊎-elim (λ i. absurd (k i)) (λ e. e) (or-cases (kept s t) (eqb (count s ws t) 0) (of-table t l .0)));
-      once = λ t l. of-table t l .1 .0;
-    }
-  where
-    tests : Each (eqb (length ws) (storeLength s) ∷ all (λ t. eqb (at ws t) 0) (from (s .n) (8 - s .n)) ∷ all (soundPart s ws) (partsOf s) ∷ all (soundTable s ws) (tables s) ∷ [])
-    tests =
-        apart (eqb (length ws) (storeLength s))
-        (all (λ t. eqb (at ws t) 0) (from (s .n) (8 - s .n)) ∷ all (soundPart s ws) (partsOf s) ∷ all (soundTable s ws) (tables s) ∷ []) h
-
-    of-part : (part : ℕ) → part ≤ s .n
-        → Each (leb (count s ws part) (room s part) ∷ rising (rowsAt s ws part) ∷ all (eqb 0) (drop (count s ws part * columns s part) (partWords s ws part)) ∷ [])
-    of-part part l =
-        apart (leb (count s ws part) (room s part)) (rising (rowsAt s ws part) ∷ all (eqb 0) (drop (count s ws part * columns s part) (partWords s ws part)) ∷ [])
-        (all-get (soundPart s ws) (partsOf s) (tests .1 .1 .0) part (mem-upTo (s .n + 1) part (omega arith)))
-
-    of-table : (t : ℕ) → t < s .n → Each ((kept s t || eqb (count s ws t) 0) ∷ noKeyTwice (rowsAt s ws t) ∷ [])
-    of-table t l =
-        apart (kept s t || eqb (count s ws t) 0) (noKeyTwice (rowsAt s ws t) ∷ [])
-        (all-get (soundTable s ws) (tables s) (tests .1 .1 .1 .0) t (mem-upTo (s .n) t l))
 
 -- the model of a store
 pub model-many : (s : Sheet) (ws : Words) → length (modelOf s ws .sides) ≡ s .n

@@ -203,7 +203,7 @@ module _ (s : Sheet) (g : Good s) (B : Tables) (law : Lawful s B) (R : ℕ) (ins
           let once = old-once (r ∷ []) rest same in
           let moves = update-moves s g B (law .many) R inside rest r r′ tie once gone in
           step (r ∷ []) rest same (r′ ∷ []) 3 r r′ refl (judges-new s g B (law .many) R inside rest r r′ tie) moves
-          (together (oldRow s m R r) (foundShow s m R r ∷ hasRows (effect s m (made 3 R r r′) .listOut) (m .list) ∷ []) (
+          (together (oldRow s m R r ∷ foundShow s m R r ∷ hasRows (effect s m (made 3 R r r′) .listOut) (m .list) ∷ []) (
             old-row s g B (law .many) R inside rest r gone,
             (
               update-show s g B (law .many) R inside rest r r′ tie once gone,
@@ -222,15 +222,15 @@ unfolding lawfulChange tiedStay
 done s g B law c h =
     by-kind s (λ c. T (lawfulChange s B c) → Done s B c)
     (λ t r r′ l e e′ h.
-    let w = apart (goodChange s (made 1 t r r′)) ((not (hasKey (key r′) (rowsOf B t)) && hasParents s B t r′) ∷ []) h in
-    let k = apart (not (hasKey (key r′) (rowsOf B t))) (hasParents s B t r′ ∷ []) (w .1 .0) in
+    let w = apart (goodChange s (made 1 t r r′) ∷ (not (hasKey (key r′) (rowsOf B t)) && hasParents s B t r′) ∷ []) h in
+    let k = apart (not (hasKey (key r′) (rowsOf B t)) ∷ hasParents s B t r′ ∷ []) (w .1 .0) in
     insert-done s g B law t l r r′ e e′ (not→F (hasKey (key r′) (rowsOf B t)) (k .0)) (parents-get s B t r′ (k .1 .0)))
     (λ t r r′ l e e′ h.
-    let w = apart (goodChange s (made 2 t r r′)) ((hasRow r (rowsOf B t) && not (hasPromisedChild s B t (key r))) ∷ []) h in
-    let k = apart (hasRow r (rowsOf B t)) (not (hasPromisedChild s B t (key r)) ∷ []) (w .1 .0) in
+    let w = apart (goodChange s (made 2 t r r′) ∷ (hasRow r (rowsOf B t) && not (hasPromisedChild s B t (key r))) ∷ []) h in
+    let k = apart (hasRow r (rowsOf B t) ∷ not (hasPromisedChild s B t (key r)) ∷ []) (w .1 .0) in
     delete-done s g B law t l r (k .0) r′ e′ (not→F (hasPromisedChild s B t (key r)) (k .1 .0)))
     (λ t r r′ l e e′ q h.
-    let w = apart (goodChange s (made 3 t r r′)) ((hasRow r (rowsOf B t) && sameTied s t r r′) ∷ []) h in
-    let k = apart (hasRow r (rowsOf B t)) (sameTied s t r r′ ∷ []) (w .1 .0) in
+    let w = apart (goodChange s (made 3 t r r′) ∷ (hasRow r (rowsOf B t) && sameTied s t r r′) ∷ []) h in
+    let k = apart (hasRow r (rowsOf B t) ∷ sameTied s t r r′ ∷ []) (w .1 .0) in
     update-done s g B law t l r (k .0) r′ e′ (tied-get s g t r r′ q (k .1 .0)))
     c (lawful-good s B c h) h

@@ -38,9 +38,6 @@ tied-get s g R r r′ e h =
         ⊎-elim (λ n. absurd (not→F (tied s R c) n t)) (λ q. eqb→≡ (at r c) (at r′ c) q)
         (or-cases (not (tied s R c)) (eqb (at r c) (at r′ c)) (all-get (λ c. not (tied s R c) || eqb (at r c) (at r′ c)) (upTo (width s R)) h c (mem-upTo (width s R) c l)))
 
-pub tied-self : (s : Sheet) (R : ℕ) (r : Row) → Tied s R r r
-tied-self s R r = record { keys = refl; conditions = λ d m q. refl; children = λ e m q. refl }
-
 pub tied-qualified : (s : Sheet) (R : ℕ) (r r′ : Row) → Tied s R r r′ → (F : ℕ → Rows) → qualified s F R r ≡ qualified s F R r′
 unfolding qualified meets
 tied-qualified s R r r′ tie F =
