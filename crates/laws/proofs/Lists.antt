@@ -12,7 +12,6 @@ use lib.Dec.{T, eqb}
 use lib.ListN.{length, getD, take, drop, set, replicate, length-map, length-append}
 use lib.Seq.{getD-set-same, getD-set-other, drop-drop, take-add}
 use Rattle.lists.specs.Lists.{Words, all, any, select, flat, from, upTo, sum}
-use Rattle.lists.specs.Totals.{total}
 use Rattle.lists.proofs.Truth.{Mem, eq→eqb, eqb→≡, decided, and-fst, and-snd, and-both, mem-append}
 use Rattle.lists.proofs.Places.{getD-map-from, length-from}
 

@@ -2,7 +2,7 @@
 -- Assumes nothing.
 use Prim.Native.Nat.{ℕ, _+_, _*_, _-_, _<_, _≤_}
 use mathlib.Core.Path.{_≡_, refl, sym, ap, ap₂, _∙_, subst}
-use mathlib.Core.Bool.{Bool, true, false, cond, _||_}
+use mathlib.Core.Bool.{Bool, true, false, cond}
 use mathlib.Core.List.{[], _∷_, _++_, map}
 use mathlib.Core.Logic.{⊎-elim}
 use native.Mathlib.Nat.{zero-add, mul-le-mul-right}
@@ -12,7 +12,7 @@ use lib.ListN.{length, take, drop, replicate, length-append, length-replicate, L
 use lib.Seq.{drop-append-add, getD-append-seam, drop-at, take-at, take-take}
 use borrow.Author.Tests.{ltb-true, ltb-false}
 use Rattle.lists.specs.Lists.{Words, at, all, flat, from, upTo, sum}
-use Rattle.lists.proofs.Truth.{all-get, all-make, map-same, mem-upTo, upTo-mem, from-mem, eq→eqb, decided, or-inl, or-inr}
+use Rattle.lists.proofs.Truth.{all-get, all-make, map-same, mem-upTo, upTo-mem, decided}
 use Rattle.lists.proofs.Places.{block, map-getD}
 use Rattle.rows.specs.Rows.{Rows, cut, rising, noKeyTwice}
 use Rattle.rows.proofs.Cut.{Wide, length-flat, cut-flat}
@@ -20,8 +20,8 @@ use Rattle.meaning.specs.Sheet.{Sheet, tables, room}
 use Rattle.meaning.specs.Plan.{kept, columns, size, start, storeLength}
 use Rattle.meaning.specs.Base.{rowsOf}
 use Rattle.meaning.specs.Meaning.{Model}
-use Rattle.meaning.specs.Store.{partsOf, partRows, counts, padded, storeOf, count, partWords, rowsAt, modelOf, soundPart, soundTable, sound, fits, stretchOf}
-use Rattle.laws.proofs.Lists.{here-or, at-upTo, together, length-flat-map, zeros}
+use Rattle.meaning.specs.Store.{partsOf, partRows, counts, padded, storeOf, count, partWords, rowsAt, modelOf, sound, fits, stretchOf}
+use Rattle.laws.proofs.Lists.{here-or, at-upTo, length-flat-map, zeros}
 use Rattle.laws.proofs.Sheets.{Good}
 use Rattle.laws.proofs.Sound.{sound-make}
 

@@ -3,17 +3,16 @@
 -- Assumes nothing.
 use Prim.Native.Nat.{ℕ, suc, _+_, _*_, _-_, _<_, _≤_}
 use mathlib.Core.Path.{_≡_, refl, sym, ap, ap₂, _∙_, subst}
-use mathlib.Core.Bool.{_||_}
 use mathlib.Core.List.{[], _∷_, _++_, map}
 use mathlib.Core.Logic.{_⊎_, inl, inr, ⊎-elim}
 use native.Mathlib.Nat.{zero-add, mul-le-mul-right}
 use native.Mathlib.Omega.{arith}
-use lib.Dec.{T, ltb, leb, eqb, ltb→lt, leb→le}
+use lib.Dec.{T, ltb, ltb→lt}
 use lib.ListN.{length, take, drop, replicate, length-map, length-drop, take-append-drop, List·getD-append, List·getD-eq-default}
 use lib.Seq.{ext-getD, getD-take, length-take-le, take-all}
 use borrow.Author.Tests.{ltb-false}
-use Rattle.lists.specs.Lists.{Words, at, all, flat, from, upTo, sum}
-use Rattle.lists.proofs.Truth.{F→≡, all-get, map-same, mem-upTo, upTo-mem, mem-from, eqb→≡, decided, or-cases, cond-true, cond-false}
+use Rattle.lists.specs.Lists.{Words, at, flat, upTo, sum}
+use Rattle.lists.proofs.Truth.{F→≡, map-same, upTo-mem, decided, cond-true, cond-false}
 use Rattle.rows.specs.Rows.{Rows, pick, rising, sorted, noKeyTwice}
 use Rattle.rows.proofs.Sorted.{rising-none, rising-sorted}
 use Rattle.rows.proofs.Cut.{Wide, cut-length, wide-cut, flat-cut}
@@ -21,8 +20,8 @@ use Rattle.meaning.specs.Sheet.{Sheet, tables, room}
 use Rattle.meaning.specs.Plan.{kept, shown, columns, size, start, storeLength}
 use Rattle.meaning.specs.Base.{Tables, rowsOf}
 use Rattle.meaning.specs.Meaning.{qualified, ways, listRow, theList, Model, meaning}
-use Rattle.meaning.specs.Store.{partsOf, partRows, counts, padded, storeOf, count, partWords, rowsAt, modelOf, soundPart, soundTable, sound, fits}
-use Rattle.laws.proofs.Lists.{here-or, at-upTo, length-upTo, Each, apart, sum-front, sum-last, blocks, zeros-are}
+use Rattle.meaning.specs.Store.{partsOf, partRows, counts, padded, storeOf, count, partWords, rowsAt, modelOf, sound, fits}
+use Rattle.laws.proofs.Lists.{here-or, at-upTo, length-upTo, sum-front, sum-last, blocks, zeros-are}
 use Rattle.laws.proofs.Sheets.{Good}
 use Rattle.laws.proofs.Columns.{columns-side, columns-list, key-pick, list-row-length}
 use Rattle.laws.proofs.Keys.{once-sorted, once-map, once-select, wide-map, wide-sorted}
