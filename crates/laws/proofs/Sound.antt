@@ -67,7 +67,8 @@ unfolding sound soundPart soundTable
 sound-make s eight ws h =
     let absent = all-make (isZero ws) (from (s .n) (8 - s .n)) (λ t i.
     let b = from-mem (s .n) (8 - s .n) t i in eq→eqb (h .absent t (b .0) (omega (arith, b .1)))) in
-    together (storeTests s ws) (eq→eqb (h .long), (absent, (all-make (soundPart s ws) (partsOf s) of-part, (all-make (soundTable s ws) (tables s) of-table, tt))))
+    let parts = all-make (soundPart s ws) (partsOf s) of-part in
+    together (storeTests s ws) (eq→eqb (h .long), (absent, (parts, (all-make (soundTable s ws) (tables s) of-table, tt))))
   where
     of-part : (part : ℕ) → Mem part (partsOf s) → T (soundPart s ws part)
     of-part part i =

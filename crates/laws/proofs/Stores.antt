@@ -125,7 +125,8 @@ module _ (s : Sheet) (g : Good s) (ws : Words) (h : T (sound s ws)) where
       each : (i : ℕ) → i < 9 → at (counts m) i ≡ at ws i
       each i l =
           here-or (λ i. i < 9 → at (counts m) i ≡ at ws i) 8 i
-          (λ l. rows-count s ws (s .n) ∙ ap (at ws) (cond-false (ltb (s .n) (s .n)) (s .n) 8 (λ k. let d : s .n < s .n = ltb→lt (s .n) (s .n) k in omega arith)))
+          (λ l. rows-count s ws (s .n)
+          ∙ ap (at ws) (cond-false (ltb (s .n) (s .n)) (s .n) 8 (λ k. let d : s .n < s .n = ltb→lt (s .n) (s .n) k in omega arith)))
           (λ d l. let k : i < 8 = omega arith in
           List·getD-append (map rows (upTo 8)) (length (m .list) ∷ []) 0 i k ∙ at-upTo rows 0 8 i k ∙ table i k (decided (ltb i (s .n)))) l
 
@@ -166,13 +167,15 @@ module _ (s : Sheet) (g : Good s) (B : Tables) (law : Lawful s B) where
   side-proper : (P : Rows → Type 0) (t : ℕ) → t < s .n → (T (kept s t) → P (sorted (map (pick (shown s t)) (qualifiedOf s B t)))) → P []
       → P (rowsOf (meaning s B .sides) t)
   side-proper P t l h e =
-      ⊎-elim (λ k. subst P (sym (meaning-side s B t l ∙ side-kept s B t k)) (h k)) (λ k. subst P (sym (meaning-side s B t l ∙ side-unkept s B t k)) e) (decided (kept s t))
+      ⊎-elim (λ k. subst P (sym (meaning-side s B t l ∙ side-kept s B t k)) (h k)) (λ k. subst P (sym (meaning-side s B t l ∙ side-unkept s B t k)) e)
+      (decided (kept s t))
 
   side-once : (t : ℕ) → t < s .n → T (noKeyTwice (sorted (map (pick (shown s t)) (qualifiedOf s B t))))
   side-once t l =
       once-sorted (map (pick (shown s t)) (qualifiedOf s B t))
       (once-map (pick (shown s t)) (qualifiedOf s B t) (λ r m. key-pick s g t l r)
-      (subst (λ (rows : Rows). T (noKeyTwice rows)) (sym (qualified-is s g B t l)) (once-select (qualified s (qualifiedOf s B) t) (rowsOf B t) (law .keys t l))))
+      (subst (λ (rows : Rows). T (noKeyTwice rows)) (sym (qualified-is s g B t l))
+      (once-select (qualified s (qualifiedOf s B) t) (rowsOf B t) (law .keys t l))))
 
   pub meaning-proper : Proper s (meaning s B)
   unfolding theList

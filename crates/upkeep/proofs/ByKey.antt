@@ -46,11 +46,13 @@ module _ (s : Sheet) (g : Good s) (B : Tables) (many : length B ≡ s .n) (once 
   joined = and-fst (joins s way) (holds s way) w
 
   -- a test of some row of a side table at full width
-  wide-any : (p : Row → Bool) (u : ℕ) → u < s .n → T (kept s u) → any p (rowsOf (wideSides s m) u) ≡ any (λ x. p (widened s u (pick (shown s u) x))) (qualifiedOf s B u)
+  wide-any : (p : Row → Bool) (u : ℕ) → u < s .n → T (kept s u)
+      → any p (rowsOf (wideSides s m) u) ≡ any (λ x. p (widened s u (pick (shown s u) x))) (qualifiedOf s B u)
   wide-any p u l k =
       ap (any p) (wide-side s m u l ∙ ap (map (widened s u)) (meaning-side s B u l ∙ side-kept s B u k))
       ∙ any-map p (widened s u) (sorted (map (pick (shown s u)) (qualifiedOf s B u)))
-      ∙ any-of (λ x. p (widened s u x)) (sorted (map (pick (shown s u)) (qualifiedOf s B u))) (map (pick (shown s u)) (qualifiedOf s B u)) (same-sorted (map (pick (shown s u)) (qualifiedOf s B u)))
+      ∙ any-of (λ x. p (widened s u x)) (sorted (map (pick (shown s u)) (qualifiedOf s B u))) (map (pick (shown s u)) (qualifiedOf s B u))
+      (same-sorted (map (pick (shown s u)) (qualifiedOf s B u)))
       ∙ any-map (λ x. p (widened s u x)) (pick (shown s u)) (qualifiedOf s B u)
 
   -- one step: the child's row of the way has one of the keys passed to exactly if the row of t has one of the keys in hand
@@ -125,7 +127,8 @@ module _ (s : Sheet) (g : Good s) (B : Tables) (many : length B ≡ s .n) (once 
           → (Mem (root s) (cond b [] (cond (eqb t (root s)) (others s t) (c ∷ needIn s k c))) → ⊥)
           → ((keys : List ℕ) → c < s .n → (c ≡ root s → ⊥) → g .depth c < k → (Mem (root s) (needIn s k c) → ⊥)
           → showsKey s (keysReached s m k c keys) (listRow s way) ≡ member (key (rowIn way c)) keys)
-          → showsKey s (cond b (record { table = t; keys = keys }) (keysReached s m k c (referring s m t keys))) (listRow s way) ≡ member (key (rowIn way t)) keys
+          → showsKey s (cond b (record { table = t; keys = keys }) (keysReached s m k c (referring s m t keys))) (listRow s way)
+          ≡ member (key (rowIn way t)) keys
       go true e n ih =
           ap (λ v. member v keys)
           (key-place (λ l. at (rowIn way (l .table)) (l .column)) (s .listed) t (key (rowIn way t)) (λ l p q. ap₂ (λ u v. at (rowIn way u) v) p q) (isT e))
@@ -134,7 +137,8 @@ module _ (s : Sheet) (g : Good s) (B : Tables) (many : length B ≡ s .n) (once 
           ∙ pass t l d (kept-above s g c (child-of s g t l d) (λ q. n′ (inl (sym q)))) keys
         where
           n′ : Mem (root s) (c ∷ needIn s k c) → ⊥
-          n′ i = n (subst (λ (xs : List ℕ). Mem (root s) xs) (sym (cond-false (eqb t (root s)) (others s t) (c ∷ needIn s k c) (λ q. d (eqb→≡ t (root s) q)))) i)
+          n′ i =
+              n (subst (λ (xs : List ℕ). Mem (root s) xs) (sym (cond-false (eqb t (root s)) (others s t) (c ∷ needIn s k c) (λ q. d (eqb→≡ t (root s) q)))) i)
 
 module _ (s : Sheet) (g : Good s) (fr : Frame s) (r : Row) (once : (t : ℕ) → t < s .n → T (noKeyTwice (rowsOf (having fr (r ∷ [])) t)))
     (new : T (hasKey (key r) (fr .rest)) → ⊥) (cannot : T (canTake s (fr .table)) → ⊥) where
@@ -191,7 +195,8 @@ module _ (s : Sheet) (g : Good s) (fr : Frame s) (r : Row) (once : (t : ℕ) →
       count : Way → ℕ
       count way = cond (isWay s way) (cond (finds (listRow s way)) (f (listRow s way)) 0) 0
 
-      ours : (way : Way) (b : Bool) → (b ≡ true → finds (listRow s way) ≡ true) → cond b (cond (finds (listRow s way)) (f (listRow s way)) 0) 0 ≡ cond b (f (listRow s way)) 0
+      ours : (way : Way) (b : Bool) → (b ≡ true → finds (listRow s way) ≡ true)
+          → cond b (cond (finds (listRow s way)) (f (listRow s way)) 0) 0 ≡ cond b (f (listRow s way)) 0
       ours way true h = ap (λ b. cond b (f (listRow s way)) 0) (h refl)
       ours way false h = refl
 

@@ -22,7 +22,7 @@ use Rattle.laws.proofs.Trees.{Promised, parent-other, all-promised, cannot-root
 use Rattle.laws.proofs.Ways.{Takes, takes-other, takes-one, isWay}
 use Rattle.laws.proofs.Qualified.{qualified-same, joins-get, qualifiedOf}
 use Rattle.laws.proofs.Meanings.{Met, Lawful}
-use Rattle.upkeep.proofs.Replace.{Frame, having, alone, Judges, side-rows-one, side-rows-none, side-rows-nothing, rows-here, rows-other, judges-self, none-nothing, none-unqualified, through-any, Moves, by-qualified}
+use Rattle.upkeep.proofs.Replace.{Frame, having, alone, Judges, side-rows-one, side-rows-none, side-rows-nothing, rows-here, rows-other, rows-alike, judges-self, none-nothing, none-unqualified, through-any, Moves, by-qualified}
 
 -- a row that is put before others or left out does not matter to another key
 key-past : (b : Bool) (k : ℕ) (r : Row) (rows : Rows) → (k ≡ key r → ⊥) → hasKey k (cond b (r ∷ rows) rows) ≡ hasKey k rows
@@ -65,15 +65,16 @@ module _ (s : Sheet) (g : Good s) (fr : Frame s) (r : Row) (law : Lawful s (havi
       (λ y m. qualified-same s (qualifiedIn s E′ k) (qualifiedIn s E k) p y
       (λ e q. same-key k (e .parent) (g .parent-in e (q .edge)) (at y (e .column)) (law .parents p l y m e q))))
     where
-      drop-r : hasKey x (select (qualified s (qualifiedIn s E′ k) p) (rowsOf E′ p)) ≡ hasKey x (select (qualified s (qualifiedIn s E′ k) p) (rowsOf E p))
+      has : Rows → Bool
+      has rows = hasKey x (select (qualified s (qualifiedIn s E′ k) p) rows)
+
+      drop-r : has (rowsOf E′ p) ≡ has (rowsOf E p)
       drop-r =
-          here-or (λ u. u ≡ p → hasKey x (select (qualified s (qualifiedIn s E′ k) p) (rowsOf E′ u)) ≡ hasKey x (select (qualified s (qualifiedIn s E′ k) p) (rowsOf E u))) R p
-          (λ e. ap (λ rows. hasKey x (select (qualified s (qualifiedIn s E′ k) p) rows)) (rows-here s g fr (r ∷ []))
+          here-or (λ u. u ≡ p → has (rowsOf E′ u) ≡ has (rowsOf E u)) R p
+          (λ e. ap has (rows-here s g fr (r ∷ []))
           ∙ key-past (qualified s (qualifiedIn s E′ k) p r) x r (select (qualified s (qualifiedIn s E′ k) p) rest) (apart p x h (sym e))
-          ∙ ap (λ rows. hasKey x (select (qualified s (qualifiedIn s E′ k) p) rows)) (sym (rows-here s g fr [])))
-          (λ d e. ap (λ rows. hasKey x (select (qualified s (qualifiedIn s E′ k) p) rows))
-          (rows-other s g fr (r ∷ []) p d ∙ sym (rows-other s g fr [] p d)))
-          refl
+          ∙ ap has (sym (rows-here s g fr [])))
+          (λ d e. ap has (rows-alike s g fr (r ∷ []) [] p d)) refl
 
   -- and a row whose parents are there is qualified as before
   still-qualified : (t : ℕ) (x : Row) → ((e : Edge) → Promised s t e → Met E (e .parent) (at x (e .column)))
@@ -87,7 +88,7 @@ module _ (s : Sheet) (g : Good s) (fr : Frame s) (r : Row) (law : Lawful s (havi
       here-or (λ t. t < s .n → Mem x (rowsOf E′ t) → (e : Edge) → Promised s t e → Met E (e .parent) (at x (e .column))) R t
       (λ l m. mine (subst (λ (rows : Rows). Mem x rows) (rows-here s g fr (r ∷ [])) m))
       (λ d l m. law .parents t l x
-      (subst (λ (rows : Rows). Mem x rows) (rows-other s g fr (r ∷ []) t d ∙ sym (rows-other s g fr [] t d)) m)) l
+      (subst (λ (rows : Rows). Mem x rows) (rows-alike s g fr (r ∷ []) [] t d) m)) l
     where
       mine : Mem x (r ∷ rest) → (e : Edge) → Promised s R e → Met E (e .parent) (at x (e .column))
       mine (inl q) e p = subst (λ (y : Row). Met E (e .parent) (at y (e .column))) (sym q) (par e p)

@@ -95,13 +95,17 @@ module _ (s : Sheet) (g : Good s) (fr : Frame s) where
   pub rows-other : (own : Rows) (u : ℕ) → (u ≡ R → ⊥) → rowsOf (having fr own) u ≡ rowsOf A u
   rows-other own u d = getD-set-other A R u (own ++ rest) [] d
 
+  pub rows-alike : (own own′ : Rows) (u : ℕ) → (u ≡ R → ⊥) → rowsOf (having fr own) u ≡ rowsOf (having fr own′) u
+  rows-alike own own′ u d = rows-other own u d ∙ sym (rows-other own′ u d)
+
   -- base tables whose rows F judges
   module _ (F : ℕ → Rows) (own : Rows) (judges : Judges s F (having fr own)) where
     qualified-rows : (t : ℕ) → t < s .n → qualifiedOf s (having fr own) t ≡ select (qualified s F t) (rowsOf (having fr own) t)
     qualified-rows t i = qualified-is s g (having fr own) t i ∙ select-same _ _ (rowsOf (having fr own) t) (judges t i)
 
     -- the side tables and the list: own's rows put into what there is without them
-    pub side-other : (u : ℕ) → u < s .n → (u ≡ R → ⊥) → sideTable s (having fr own) u ≡ cond (kept s u) (sorted (map (pick (shown s u)) (select (qualified s F u) (rowsOf A u)))) []
+    pub side-other : (u : ℕ) → u < s .n → (u ≡ R → ⊥)
+        → sideTable s (having fr own) u ≡ cond (kept s u) (sorted (map (pick (shown s u)) (select (qualified s F u) (rowsOf A u)))) []
     unfolding sideTable
     side-other u i d =
         ap (λ rows. cond (kept s u) (sorted (map (pick (shown s u)) rows)) []) (qualified-rows u i ∙ ap (select (qualified s F u)) (rows-other own u d))
@@ -109,7 +113,8 @@ module _ (s : Sheet) (g : Good s) (fr : Frame s) where
     pub side-here : sideTable s (having fr own) R ≡ putRows (sideRows s F R own) (sorted (sideRows s F R rest))
     unfolding sideTable sideRows sorted putRows
     side-here =
-        ap (λ rows. cond (kept s R) (sorted (map (pick (shown s R)) rows)) []) (qualified-rows R (fr .inside) ∙ ap (select (qualified s F R)) (rows-here own) ∙ select-append (qualified s F R) own rest)
+        ap (λ rows. cond (kept s R) (sorted (map (pick (shown s R)) rows)) [])
+        (qualified-rows R (fr .inside) ∙ ap (select (qualified s F R)) (rows-here own) ∙ select-append (qualified s F R) own rest)
         ∙ go (kept s R)
       where
         f : Row → Row
@@ -129,7 +134,8 @@ module _ (s : Sheet) (g : Good s) (fr : Frame s) where
     list-is = list-append s A R own rest l
 
     -- the ways through one of own's rows take rows that F qualifies; if F does not qualify it there is none
-    pub way-judged : (r : Row) → Mem r own → (way : Way) → Takes way (alone fr (r ∷ [])) → T (isWay s way) → (t : ℕ) → t < s .n → T (qualified s F t (rowIn way t))
+    pub way-judged : (r : Row) → Mem r own → (way : Way) → Takes way (alone fr (r ∷ [])) → T (isWay s way) → (t : ℕ) → t < s .n
+        → T (qualified s F t (rowIn way t))
     way-judged r m way k w t i =
         subst T (judges t i (rowIn way t) (row t i))
         (way-qualified s g (having fr own) way row (and-fst (joins s way) (holds s way) w) (and-snd (joins s way) (holds s way) w) t i)
@@ -161,10 +167,12 @@ module _ (s : Sheet) (g : Good s) (fr : Frame s) where
       ∙ total-select (λ way. 1) (λ way. sameRow (rowIn way R) x) (select (isWay s) (choices G))
       ∙ total-select (λ way. cond (sameRow (rowIn way R) x) 1 0) (isWay s) (choices G)
 
-  pub ways-of-same : (G H : Tables) → length G ≡ length H → ((u : ℕ) → Same (rowsOf G u) (rowsOf H u)) → (x : Row) → length (waysOf s G R x) ≡ length (waysOf s H R x)
+  pub ways-of-same : (G H : Tables) → length G ≡ length H → ((u : ℕ) → Same (rowsOf G u) (rowsOf H u)) → (x : Row)
+      → length (waysOf s G R x) ≡ length (waysOf s H R x)
   ways-of-same G H e h x = count-of G x ∙ same-choices G H e h (counted R x) ∙ sym (count-of H x)
 
-  pub ways-of : (own : Rows) (x : Row) → ((y : Row) → Mem y own → y ≡ x) → (Mem x rest → ⊥) → length (waysOf s (having fr own) R x) ≡ length (wayRows s (alone fr own))
+  pub ways-of : (own : Rows) (x : Row) → ((y : Row) → Mem y own → y ≡ x) → (Mem x rest → ⊥)
+      → length (waysOf s (having fr own) R x) ≡ length (wayRows s (alone fr own))
   unfolding counted
   ways-of own x h n =
       count-of (having fr own) x
@@ -174,7 +182,8 @@ module _ (s : Sheet) (g : Good s) (fr : Frame s) where
       ap (λ b. cond (isWay s way) (cond b 1 0) 0) (ap (λ y. sameRow y x) (h (rowIn way R) (takes-here way A R l own k)) ∙ same-refl x))
       ∙ sym (total-wayRows s (alone fr own) (λ row. 1)) ∙ total-length (wayRows s (alone fr own)))
       (total-ways (counted R x) (λ way. 0) (alone fr rest) (λ way k.
-      other way (F→≡ (sameRow (rowIn way R) x) (λ e. n (subst (λ (y : Row). Mem y rest) (same→≡ (rowIn way R) x e) (takes-here way A R l rest k)))) (isWay s way))
+      other way (F→≡ (sameRow (rowIn way R) x) (λ e. n (subst (λ (y : Row). Mem y rest) (same→≡ (rowIn way R) x e) (takes-here way A R l rest k))))
+      (isWay s way))
       ∙ total-zero (choices (alone fr rest)))
       ∙ add-zero (length (wayRows s (alone fr own)))
     where
@@ -216,11 +225,13 @@ module _ (s : Sheet) (g : Good s) (fr : Frame s) where
 
     -- also where ways cannot be taken, if none goes through r
     pub through-any : (own : Rows) → Judges s F (having fr own) → (r : Row) → Mem r own → T (qualified s F R r)
-        → ((T (canTake s R) → ⊥) → (way : Way) → Takes way (alone fr (r ∷ [])) → T (isWay s way) → ⊥) → Same (rowsThrough s m R r) (wayRows s (alone fr (r ∷ [])))
+        → ((T (canTake s R) → ⊥) → (way : Way) → Takes way (alone fr (r ∷ [])) → T (isWay s way) → ⊥)
+        → Same (rowsThrough s m R r) (wayRows s (alone fr (r ∷ [])))
     unfolding rowsThrough waysThrough
     through-any own judges r k q none =
         ⊎-elim (λ can. through-is own judges r k q can)
-        (λ cannot. λ f. ap (λ ways. total f (map (listRow s) ways)) (cond-false (qualifies s m R r && canTake s R) _ [] (λ i. cannot (and-snd (qualifies s m R r) (canTake s R) i)))
+        (λ cannot. λ f. ap (λ ways. total f (map (listRow s) ways))
+        (cond-false (qualifies s m R r && canTake s R) _ [] (λ i. cannot (and-snd (qualifies s m R r) (canTake s R) i)))
         ∙ same-sym _ _ (no-ways s (alone fr (r ∷ [])) (none cannot)) f)
         (decided (canTake s R))
 
@@ -265,7 +276,8 @@ module _ (s : Sheet) (g : Good s) (fr : Frame s) where
     side-keys : (k : ℕ) → T (hasKey k (rowsOf (m .sides) R)) → T (hasKey k (select (qualified s F R) (O ++ rest)))
     side-keys k h =
         ⊎-elim
-        (λ i. subst T (side-key s g old R (fr .inside) i k ∙ ap (hasKey k) (qualified-is s g old R (fr .inside) ∙ ap (select (qualified s F R)) (rows-here O))) side)
+        (λ i. subst T (side-key s g old R (fr .inside) i k
+        ∙ ap (hasKey k) (qualified-is s g old R (fr .inside) ∙ ap (select (qualified s F R)) (rows-here O))) side)
         (λ i. absurd (subst (λ (rows : Rows). T (hasKey k rows)) (side-unkept s old R i) side)) (decided (kept s R))
       where
         side : T (hasKey k (sideTable s old R))

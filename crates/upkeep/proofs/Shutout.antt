@@ -35,29 +35,37 @@ pub record Meets (v : Version) : Type 0 where
   pub fills : (sheet store run : Words) → v .filling sheet store run ≡ fill sheet store run
   pub changes : (sheet store : Words) (c : Change) → v .changing sheet store c ≡ change sheet store c
 
+-- a change after a fill, and a second one after it
+abbrev pub changedFirst : Version → Words → Words → Words → Change → Outcome
+changedFirst v sheet store run c = v .changing sheet (v .filling sheet store run .words) c
+
+abbrev pub changedSecond : Version → Words → Words → Words → Change → Change → Outcome
+changedSecond v sheet store run c d = v .changing sheet (changedFirst v sheet store run c .words) d
+
 pub record ShutOut (v : Version) : Type 0 where
-  -- "a version that always refuses"
+  -- "a version that always refuses": and a lawful change is refused for room only
   pub fill-refuses : ((sheet store run : Words) → Refused (v .filling sheet store run .number)) → ⊥
   pub change-refuses : ((sheet store : Words) (c : Change) → Refused (v .changing sheet store c .number)) → ⊥
   pub change-accepts : (sheet store run : Words) (c : Change) → v .filling sheet store run .number ≡ 0
-      → T (lawfulChange (sheetOf sheet) (baseOf (sheetOf sheet) run) c) → (T (outgrows (sheetOf sheet) (changed (baseOf (sheetOf sheet) run) c) (c .table)) → ⊥)
-      → v .changing sheet (v .filling sheet store run .words) c .number ≡ 0
+      → T (lawfulChange (sheetOf sheet) (baseOf (sheetOf sheet) run) c)
+      → (T (outgrows (sheetOf sheet) (changed (baseOf (sheetOf sheet) run) c) (c .table)) → ⊥)
+      → changedFirst v sheet store run c .number ≡ 0
   -- "one with a single fixed answer or plan", were it of the accepted calls only
   pub fill-fixed : (o : Outcome) → ((sheet store run : Words) → v .filling sheet store run .number ≡ 0 → v .filling sheet store run ≡ o) → ⊥
-  pub change-fixed : (o : Outcome) → ((sheet store : Words) (c : Change) → v .changing sheet store c .number ≡ 0 → v .changing sheet store c ≡ o) → ⊥
+  pub change-fixed : (o : Outcome)
+      → ((sheet store : Words) (c : Change) → v .changing sheet store c .number ≡ 0 → v .changing sheet store c ≡ o) → ⊥
   pub plan-fixed : (p : Plan) → ((sheet : Words) → v .planned sheet .number ≡ 0 → v .planned sheet ≡ p) → ⊥
   -- "one that leaves the store untouched"
   pub fill-untouched : ((sheet store run : Words) → v .filling sheet store run .words ≡ store) → ⊥
   pub change-untouched : ((sheet store : Words) (c : Change) → v .changing sheet store c .words ≡ store) → ⊥
-  -- "one that applies the first change and merely nods at later ones": it accepts the second after a fill and leaves the store
-  pub second-nodded : ((sheet store run : Words) (c d : Change)
-      → v .changing sheet (v .changing sheet (v .filling sheet store run .words) c .words) d .number ≡ 0
-      → v .changing sheet (v .changing sheet (v .filling sheet store run .words) c .words) d .words ≡ v .changing sheet (v .filling sheet store run .words) c .words) → ⊥
+  -- "one that applies the first change and merely nods at later ones": it accepts the second and leaves the store as the first left it
+  pub second-nodded : ((sheet store run : Words) (c d : Change) → changedSecond v sheet store run c d .number ≡ 0
+      → changedSecond v sheet store run c d .words ≡ changedFirst v sheet store run c .words) → ⊥
   -- "one that invents taken and added": they are the numbers of the base tables' ways, and no number serves for all changes
   pub counted : (sheet store run : Words) (c : Change) → v .filling sheet store run .number ≡ 0
-      → v .changing sheet (v .filling sheet store run .words) c .number ≡ 0 → T (lawfulChange (sheetOf sheet) (baseOf (sheetOf sheet) run) c)
-      → (v .changing sheet (v .filling sheet store run .words) c .taken ≡ length (waysOf (sheetOf sheet) (baseOf (sheetOf sheet) run) (c .table) (c .old)))
-      × (v .changing sheet (v .filling sheet store run .words) c .added ≡ length (waysOf (sheetOf sheet) (changed (baseOf (sheetOf sheet) run) c) (c .table) (c .new)))
+      → T (lawfulChange (sheetOf sheet) (baseOf (sheetOf sheet) run) c) → changedFirst v sheet store run c .number ≡ 0
+      → (changedFirst v sheet store run c .taken ≡ length (waysOf (sheetOf sheet) (baseOf (sheetOf sheet) run) (c .table) (c .old)))
+      × (changedFirst v sheet store run c .added ≡ length (waysOf (sheetOf sheet) (changed (baseOf (sheetOf sheet) run) c) (c .table) (c .new)))
   pub taken-fixed : (k : ℕ) → ((sheet store : Words) (c : Change) → v .changing sheet store c .number ≡ 0 → v .changing sheet store c .taken ≡ k) → ⊥
   pub added-fixed : (k : ℕ) → ((sheet store : Words) (c : Change) → v .changing sheet store c .number ≡ 0 → v .changing sheet store c .added ≡ k) → ⊥
 
@@ -116,7 +124,12 @@ record Seen : Type 0 where
   store-lengths : plan (sheet 2) .store ≡ plan (sheet 1) .store → ⊥
 
 seen : Seen
-unfolding sheet old none two first second third store store-one store-two sheetOf goodCounts goodEdge goodCondition goodListed goodWords goodTree sheetRefusal root edgeInto others dep depPlus need kept isShown shown columns size start storeLength inOrder tablePlan goodPlan plan baseStart baseOf hasParents lawfulTable lawful goodBase goodChange tied sameTied tiedStay meets qualified sideTable joins holds ways listRow theList meaning counts storeOf partWords rowsAt modelOf soundPart soundTable sound fits widened wideSides canTake waysThrough rowsThrough sideRow insertEffect deleteEffect effect after newKey oldRow agrees modelAfter changeRefusal accepted change fillRefusal filled fill cut wordOrder thenBy rowOrder isLess smaller rising putRow putRows sorted takeRow takeRows hasRows
+unfolding sheet old none two first second third store store-one store-two sheetOf goodCounts goodEdge goodCondition goodListed goodWords
+    goodTree sheetRefusal root edgeInto others dep depPlus need kept isShown shown columns size start storeLength inOrder tablePlan goodPlan
+    plan baseStart baseOf hasParents lawfulTable lawful goodBase goodChange tied sameTied tiedStay meets qualified sideTable joins holds
+    ways listRow theList meaning counts storeOf partWords rowsAt modelOf soundPart soundTable sound fits widened wideSides canTake
+    waysThrough rowsThrough sideRow insertEffect deleteEffect effect after newKey oldRow agrees modelAfter changeRefusal accepted change
+    fillRefusal filled fill cut wordOrder thenBy rowOrder isLess smaller rising putRow putRows sorted takeRow takeRows hasRows
 seen =
     record {
       fill-none = refl;
@@ -148,24 +161,35 @@ theirs =
       change-refuses = λ h. h (sheet 2) store first (seen .first-accepted);
       change-accepts = λ sheet store run c f l n.
           let r = demand3 .right sheet store run f (c ∷ []) (λ e. l) .0 in
-          zero-or (change sheet (fill sheet store run .words) c .number ≡ 0) _ (λ e. e) (λ d. absurd (n (r .only-room l d .1)));
+          zero-or (changedFirst definitions sheet store run c .number ≡ 0) _ (λ e. e) (λ d. absurd (n (r .only-room l d .1)));
       fill-fixed = λ o h. seen .fill-writes-two (ap (λ o. o .words) (h (sheet 2) old none (seen .fill-none) ∙ sym (h (sheet 2) old two (seen .fill-two))));
-      change-fixed = λ o h. numbers-differ (o .added) (ap (λ o. o .added) (h (sheet 2) store first (seen .first-accepted))) (ap (λ o. o .added) (h (sheet 2) store-two third (seen .third-accepted)));
+      change-fixed = λ o h. added-differ (o .added) (λ sheet store c e. ap (λ o. o .added) (h sheet store c e));
       plan-fixed = λ p h. seen .store-lengths (ap (λ p. p .store) (h (sheet 2) (seen .plan-two) ∙ sym (h (sheet 1) (seen .plan-one))));
       fill-untouched = λ h. seen .fill-writes (h (sheet 2) old none);
       change-untouched = λ h. seen .first-writes (h (sheet 2) store first);
       second-nodded = λ h. seen .second-writes (h (sheet 2) old none first second (seen .second-accepted));
-      counted = λ sheet store run c f a l. let r = demand3 .right sheet store run f (c ∷ []) (λ e. l) .0 in (r .taken a, r .added a);
-      taken-fixed = λ k h. omega (arith, h (sheet 2) store first (seen .first-accepted), seen .first-taken, h (sheet 2) store-two third (seen .third-accepted), seen .third-taken);
-      added-fixed = λ k h. numbers-differ k (h (sheet 2) store first (seen .first-accepted)) (h (sheet 2) store-two third (seen .third-accepted));
+      counted = λ sheet store run c f l a. let r = demand3 .right sheet store run f (c ∷ []) (λ e. l) .0 in (r .taken a, r .added a);
+      taken-fixed = λ k h.
+          let a = h (sheet 2) store first (seen .first-accepted) in
+          let b = h (sheet 2) store-two third (seen .third-accepted) in
+          omega (arith, a, seen .first-taken, b, seen .third-taken);
+      added-fixed = added-differ;
     }
   where
-    numbers-differ : (k : ℕ) → change (sheet 2) store first .added ≡ k → change (sheet 2) store-two third .added ≡ k → ⊥
-    numbers-differ k a b = omega (arith, a, seen .first-added, b, seen .third-added)
+    added-differ : (k : ℕ) → ((sheet store : Words) (c : Change) → change sheet store c .number ≡ 0 → change sheet store c .added ≡ k) → ⊥
+    added-differ k h =
+        let a = h (sheet 2) store first (seen .first-accepted) in
+        let b = h (sheet 2) store-two third (seen .third-accepted) in
+        omega (arith, a, seen .first-added, b, seen .third-added)
 
 -- every version that meets the contracts
 pub shut-out : (v : Version) → Meets v → ShutOut v
 unfolding definitions
-shut-out v m =
-    subst ShutOut
-    (sym (λ i. record { planned = λ sheet. m .plans sheet i; filling = λ sheet store run. m .fills sheet store run i; changing = λ sheet store c. m .changes sheet store c i })) theirs
+shut-out v m = subst ShutOut (sym same) theirs
+  where
+    same : v ≡ definitions
+    same = λ i. record {
+      planned = λ sheet. m .plans sheet i;
+      filling = λ sheet store run. m .fills sheet store run i;
+      changing = λ sheet store c. m .changes sheet store c i;
+    }

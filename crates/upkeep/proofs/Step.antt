@@ -73,7 +73,8 @@ module _ (s : Sheet) (g : Good s) (B : Tables) (law : Lawful s B) (R : ℕ) (ins
         let c = made kind R r r′ in
         record {
           agreed = subst (λ (m : Model). T (agrees s m c)) (sym same-model) agreed;
-          right = ap (λ m. after m R (effect s m c)) same-model ∙ replaced s g (frame rest) O N judges (effect s (meaning s old) c) moves ∙ ap (meaning s) (sym is);
+          right = ap (λ m. after m R (effect s m c)) same-model ∙ replaced s g (frame rest) O N judges (effect s (meaning s old) c) moves
+              ∙ ap (meaning s) (sym is);
           law = subst (λ (b : Tables). Lawful s b) (sym is) lawful;
           taken = ap (λ m. length (effect s m c .listOut)) same-model
               ∙ same-length (effect s (meaning s old) c .listOut) (wayRows s (alone (frame rest) O)) (moves .list-out)
@@ -125,7 +126,8 @@ module _ (s : Sheet) (g : Good s) (B : Tables) (law : Lawful s B) (R : ℕ) (ins
         (λ e p. subst (λ (b : Tables). Met b (e .parent) (at r′ (e .column))) (sym rest-is) (par e p)) in
         let moves = insert-moves s g (frame rest) r′ E-law new E-par in
         step [] rest (λ f. refl) (r′ ∷ []) 1 r r′ refl (judges-in s g (frame rest) r′ E-law new E-par) moves
-        (and-both (newKey (meaning s (set B R rest)) R r′) (hasRows (effect s (meaning s (set B R rest)) (made 1 R r r′) .listOut) (meaning s (set B R rest) .list))
+        (and-both (newKey (meaning s (set B R rest)) R r′)
+        (hasRows (effect s (meaning s (set B R rest)) (made 1 R r r′) .listOut) (meaning s (set B R rest) .list))
         (new-key s g (frame rest) r′ new) (replaced-has s g (frame rest) [] (r′ ∷ []) _ moves))
         inserted-lawful (λ y m. absurd m) (none-empty r none) (only r′) (key-not r′ rest new)
 

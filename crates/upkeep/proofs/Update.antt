@@ -21,7 +21,7 @@ use Rattle.laws.proofs.Qualified.{qualified-same, qualifiedOf}
 use Rattle.laws.proofs.Ways.{wayRows}
 use Rattle.upkeep.proofs.Tied.{Tied, tied-qualified}
 use Rattle.upkeep.proofs.ByKey.{found-same, found-show, found-new}
-use Rattle.upkeep.proofs.Replace.{Frame, having, alone, Judges, side-rows-one, side-rows-none, rows-here, rows-other, judges-self, none-unqualified, through-is, Moves, by-qualified}
+use Rattle.upkeep.proofs.Replace.{Frame, having, alone, Judges, side-rows-one, side-rows-none, rows-here, rows-alike, judges-self, none-unqualified, through-is, Moves, by-qualified}
 
 -- a row for another with its key
 key-swap : (b : Bool) (k : ℕ) (r r′ : Row) (rows : Rows) → key r ≡ key r′ → hasKey k (cond b (r ∷ rows) rows) ≡ hasKey k (cond b (r′ ∷ rows) rows)
@@ -44,23 +44,22 @@ module _ (s : Sheet) (g : Good s) (fr : Frame s) (r r′ : Row) (tie : Tied s (f
   same-key : (k p x : ℕ) → hasKey x (qualifiedIn s (X r) k p) ≡ hasKey x (qualifiedIn s (X r′) k p)
   same-key zero p x = refl
   same-key (suc k) p x =
-      ap (hasKey x) (select-same old new (rowsOf (X r) p) (λ y m.
+      ap (hasKey x) (select-same (qualified s (qualifiedIn s (X r) k) p) test (rowsOf (X r) p) (λ y m.
       qualified-same s (qualifiedIn s (X r) k) (qualifiedIn s (X r′) k) p y (λ e q. same-key k (e .parent) (at y (e .column)))))
-      ∙ here-or (λ u. u ≡ p → hasKey x (select new (rowsOf (X r) u)) ≡ hasKey x (select new (rowsOf (X r′) u))) R p
-      (λ e. ap (λ rows. hasKey x (select new rows)) (rows-here s g fr (r ∷ []))
-      ∙ ap (λ b. hasKey x (cond b (r ∷ select new rest) (select new rest))) (tied e)
-      ∙ key-swap (new r′) x r r′ (select new rest) (tie .keys)
-      ∙ ap (λ rows. hasKey x (select new rows)) (sym (rows-here s g fr (r′ ∷ []))))
-      (λ d e. ap (λ rows. hasKey x (select new rows)) (rows-other s g fr (r ∷ []) p d ∙ sym (rows-other s g fr (r′ ∷ []) p d)))
-      refl
+      ∙ here-or (λ u. u ≡ p → has (rowsOf (X r) u) ≡ has (rowsOf (X r′) u)) R p
+      (λ e. ap has (rows-here s g fr (r ∷ []))
+      ∙ ap (λ b. hasKey x (cond b (r ∷ select test rest) (select test rest))) (tied e)
+      ∙ key-swap (test r′) x r r′ (select test rest) (tie .keys)
+      ∙ ap has (sym (rows-here s g fr (r′ ∷ []))))
+      (λ d e. ap has (rows-alike s g fr (r ∷ []) (r′ ∷ []) p d)) refl
     where
-      old : Row → Bool
-      old = qualified s (qualifiedIn s (X r) k) p
+      test : Row → Bool
+      test = qualified s (qualifiedIn s (X r′) k) p
 
-      new : Row → Bool
-      new = qualified s (qualifiedIn s (X r′) k) p
+      has : Rows → Bool
+      has rows = hasKey x (select test rows)
 
-      tied : R ≡ p → new r ≡ new r′
+      tied : R ≡ p → test r ≡ test r′
       tied e =
           subst (λ (t : ℕ). qualified s (qualifiedIn s (X r′) k) t r ≡ qualified s (qualifiedIn s (X r′) k) t r′) e
           (tied-qualified s R r r′ tie (qualifiedIn s (X r′) k))
