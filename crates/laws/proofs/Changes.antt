@@ -25,7 +25,7 @@ use Rattle.laws.proofs.Lists.{by-set, apart}
 use Rattle.laws.proofs.Sheets.{Good}
 use Rattle.laws.proofs.Columns.{columns-side, columns-list, key-pick, list-row-length, with-length}
 use Rattle.laws.proofs.Keys.{once-put, once-take, key-gone, wide-map, wide-get, wide-puts, wide-takes}
-use Rattle.laws.proofs.Models.{part-side, part-list, by-part, Proper, rows-at}
+use Rattle.laws.proofs.Models.{part-side, part-list, by-part, Proper, rows-at, model-back, store-sound}
 use Rattle.laws.proofs.Stores.{model-side, sound-proper}
 
 -- a change of a known kind
@@ -61,15 +61,16 @@ by-kind s P insert delete update c h = go (eqb (c .kind) 1) refl (eqb (c .kind) 
     of-kind k e p = subst (λ (j : ℕ). P (made j t r r′)) (sym (eqb→≡ (c .kind) k e)) p
 
     go : (a : Bool) → eqb (c .kind) 1 ≡ a → (b : Bool) → eqb (c .kind) 2 ≡ b → (d : Bool) → eqb (c .kind) 3 ≡ d
-        → T (cond a (eqb (length r) 0 && hasWidth s t r′) (cond b (hasWidth s t r && eqb (length r′) 0) (cond d (hasWidth s t r && hasWidth s t r′ && eqb (key r) (key r′)) false))) → P c
+        → T (cond a (eqb (length r) 0 && hasWidth s t r′)
+        (cond b (hasWidth s t r && eqb (length r′) 0) (cond d (hasWidth s t r && hasWidth s t r′ && eqb (key r) (key r′)) false))) → P c
     go true e b f d g k =
-        let w = apart (eqb (length r) 0) (hasWidth s t r′ ∷ []) k in
+        let w = apart (eqb (length r) 0 ∷ hasWidth s t r′ ∷ []) k in
         of-kind 1 (isT e) (insert t r r′ inside (eqb→≡ (length r) 0 (w .0)) (eqb→≡ (length r′) (width s t) (w .1 .0)))
     go false e true f d g k =
-        let w = apart (hasWidth s t r) (eqb (length r′) 0 ∷ []) k in
+        let w = apart (hasWidth s t r ∷ eqb (length r′) 0 ∷ []) k in
         of-kind 2 (isT f) (delete t r r′ inside (eqb→≡ (length r) (width s t) (w .0)) (eqb→≡ (length r′) 0 (w .1 .0)))
     go false e false f true g k =
-        let w = apart (hasWidth s t r) (hasWidth s t r′ ∷ eqb (key r) (key r′) ∷ []) k in
+        let w = apart (hasWidth s t r ∷ hasWidth s t r′ ∷ eqb (key r) (key r′) ∷ []) k in
         of-kind 3 (isT g)
         (update t r r′ inside (eqb→≡ (length r) (width s t) (w .0)) (eqb→≡ (length r′) (width s t) (w .1 .0)) (eqb→≡ (key r) (key r′) (w .1 .1 .0)))
     go false e false f false g k = absurd k
@@ -115,7 +116,8 @@ still-none (x ∷ xs) = still-none xs
 
 -- an effect keeps a proper model proper, if its rows have their parts' widths and no key stands twice after it
 module _ (s : Sheet) (m : Model) (p : Proper s m) (t : ℕ) (l : t < s .n) (x : Effect) where
-  each-side : (P : ℕ → Rows → Type 0) → ((u : ℕ) → u < s .n → P u (partRows m u)) → P t (sideAfter m t x) → (u : ℕ) → u < s .n → P u (rowsOf (after m t x .sides) u)
+  each-side : (P : ℕ → Rows → Type 0) → ((u : ℕ) → u < s .n → P u (partRows m u)) → P t (sideAfter m t x) → (u : ℕ) → u < s .n
+      → P u (rowsOf (after m t x .sides) u)
   unfolding after
   each-side P h k =
       by-set [] (λ u rows. u < s .n → P u rows) (m .sides) t (sideAfter m t x) (omega (arith, p .many)) (λ i. k)
@@ -148,7 +150,8 @@ module _ (s : Sheet) (m : Model) (p : Proper s m) (t : ℕ) (l : t < s .n) (x : 
             (each-side (λ u rows. T (noKeyTwice rows)) (p .once) o v i);
         unkept = λ v i. subst (λ (rows : Rows). (T (kept s v) → ⊥) → rows ≡ []) (sym (part-side (after m t x) (s .n) many v i))
             (each-side (λ u rows. (T (kept s u) → ⊥) → rows ≡ []) (p .unkept)
-            (λ k. ap₂ (λ xs rows. putRows xs (takeRows (x .sideOut) rows)) (u k) (sym (part-side m (s .n) (p .many) t l) ∙ p .unkept t l k) ∙ still-none (x .sideOut)) v i);
+            (λ k. ap₂ (λ xs rows. putRows xs (takeRows (x .sideOut) rows)) (u k) (sym (part-side m (s .n) (p .many) t l) ∙ p .unkept t l k)
+            ∙ still-none (x .sideOut)) v i);
       }
     where
       list-is : (P : Rows → Type 0) → P (partRows m (s .n)) → P (m .list)
@@ -160,11 +163,13 @@ module _ (s : Sheet) (g : Good s) (m : Model) (p : Proper s m) (t : ℕ) (l : t 
   once = subst (λ (rows : Rows). T (noKeyTwice rows)) (part-side m (s .n) (p .many) t l) (p .once t l)
 
   -- by cases on whether t is kept
-  side-rows : (P : Rows → Rows → Type 0) (r r′ : Row) → (T (kept s t) → P (pick (shown s t) r ∷ []) (pick (shown s t) r′ ∷ [])) → P [] [] → P (sideRow s t r) (sideRow s t r′)
+  side-rows : (P : Rows → Rows → Type 0) (r r′ : Row) → (T (kept s t) → P (pick (shown s t) r ∷ []) (pick (shown s t) r′ ∷ [])) → P [] []
+      → P (sideRow s t r) (sideRow s t r′)
   unfolding sideRow
   side-rows P r r′ h k = go (kept s t) (λ e. h (isT e))
     where
-      go : (b : Bool) → (b ≡ true → P (pick (shown s t) r ∷ []) (pick (shown s t) r′ ∷ [])) → P (cond b (pick (shown s t) r ∷ []) []) (cond b (pick (shown s t) r′ ∷ []) [])
+      go : (b : Bool) → (b ≡ true → P (pick (shown s t) r ∷ []) (pick (shown s t) r′ ∷ []))
+          → P (cond b (pick (shown s t) r ∷ []) []) (cond b (pick (shown s t) r′ ∷ []) [])
       go true h = h refl
       go false h = k
 
@@ -188,7 +193,8 @@ module _ (s : Sheet) (g : Good s) (m : Model) (p : Proper s m) (t : ℕ) (l : t 
   once-swap r r′ e q h =
       side-rows (λ out put. T (noKeyTwice (putRows put (takeRows out rows)))) r r′
       (λ k. put-once r′ (takeRow (pick (shown s t) r) rows)
-      (λ j. key-gone (pick (shown s t) r) rows once (there k) (subst (λ (k : ℕ). T (hasKey k (takeRow (pick (shown s t) r) rows))) (sym (key-pick s g t l r ∙ e)) j))
+      (λ j. key-gone (pick (shown s t) r) rows once (there k)
+      (subst (λ (k : ℕ). T (hasKey k (takeRow (pick (shown s t) r) rows))) (sym (key-pick s g t l r ∙ e)) j))
       (once-take (pick (shown s t) r) rows once)) once
     where
       rows : Rows
@@ -203,7 +209,8 @@ module _ (s : Sheet) (g : Good s) (m : Model) (p : Proper s m) (t : ℕ) (l : t 
 -- A change that passes tests 5 and 8 on a proper model leaves a proper model
 module _ (s : Sheet) (g : Good s) (m : Model) (p : Proper s m) where
   -- a row that isn't qualified changes nothing
-  by-qualified : (t : ℕ) → t < s .n → (r : Row) (x : Effect) → (T (qualifies s m t r) → Proper s (after m t x)) → Proper s (after m t (cond (qualifies s m t r) x noEffect))
+  by-qualified : (t : ℕ) → t < s .n → (r : Row) (x : Effect) → (T (qualifies s m t r) → Proper s (after m t x))
+      → Proper s (after m t (cond (qualifies s m t r) x noEffect))
   unfolding putRows takeRows
   by-qualified t l r x h = go (qualifies s m t r) (λ e. h (isT e))
     where
@@ -221,7 +228,7 @@ module _ (s : Sheet) (g : Good s) (m : Model) (p : Proper s m) where
       (λ t r r′ l e e′ h. by-qualified t l r (deleteEffect s m t r) (λ q.
       proper-after s m p t l (deleteEffect s m t r) tt (λ k. refl) (once-out s g m p t l r) tt))
       (λ t r r′ l e e′ k h. by-qualified t l r (updateEffect s m t r r′) (λ q.
-      let old = apart (oldRow s m t r) (foundShow s m t r ∷ hasRows (effect s m (made 3 t r r′) .listOut) (m .list) ∷ []) h in
+      let old = apart (oldRow s m t r ∷ foundShow s m t r ∷ hasRows (effect s m (made 3 t r r′) .listOut) (m .list) ∷ []) h in
       proper-after s m p t l (updateEffect s m t r r′) (side-row-wide s t r′ l) (side-row-none s t r′) (once-swap s g m p t l r r′ k q (old .0))
       (by-can (canTake s t) (rowsThrough s m t r′) (map (withColumns (s .listed) t r′) (rowsFound s m t r)) (through-wide s m t r′) (found-wide s m p t r r′))))
     where
@@ -234,6 +241,12 @@ module _ (s : Sheet) (g : Good s) (ws : Words) (c : Change) (ok : T (sound s ws)
   pub after-proper : Proper s (modelAfter s ws c)
   unfolding modelAfter
   after-proper = change-proper s g (modelOf s ws) (sound-proper s g ws ok) c good agree
+
+  pub after-sound : T (fits s (modelAfter s ws c)) → T (sound s (storeOf s (modelAfter s ws c)))
+  after-sound fit = store-sound s g (modelAfter s ws c) after-proper fit
+
+  pub after-back : T (fits s (modelAfter s ws c)) → modelOf s (storeOf s (modelAfter s ws c)) ≡ modelAfter s ws c
+  after-back fit = model-back s g (modelAfter s ws c) after-proper fit
 
   pub others-stay : T (fits s (modelAfter s ws c)) → (t : ℕ) → t < s .n → (t ≡ c .table → ⊥) → rowsAt s (storeOf s (modelAfter s ws c)) t ≡ rowsAt s ws t
   unfolding modelAfter

@@ -128,9 +128,11 @@ with-map f (l ∷ ls) t r = ap (λ k. cond (eqb (l .table) t) (at r (l .column))
 
 -- into the list row of a way: the list row of the way with r in the place of its row of t
 pub with-row : (s : Sheet) (t : ℕ) (r : Row) (way way′ : Way)
-    → ((l : Listed) → Mem l (s .listed) → cond (eqb (l .table) t) (at r (l .column)) (at (rowIn way (l .table)) (l .column)) ≡ at (rowIn way′ (l .table)) (l .column))
+    → ((l : Listed) → Mem l (s .listed)
+    → cond (eqb (l .table) t) (at r (l .column)) (at (rowIn way (l .table)) (l .column)) ≡ at (rowIn way′ (l .table)) (l .column))
     → withColumns (s .listed) t r (listRow s way) ≡ listRow s way′
 unfolding listRow
 with-row s t r way way′ h =
     with-map (λ l. at (rowIn way (l .table)) (l .column)) (s .listed) t r
-    ∙ map-same (λ l. cond (eqb (l .table) t) (at r (l .column)) (at (rowIn way (l .table)) (l .column))) (λ l. at (rowIn way′ (l .table)) (l .column)) (s .listed) h
+    ∙ map-same (λ l. cond (eqb (l .table) t) (at r (l .column)) (at (rowIn way (l .table)) (l .column)))
+    (λ l. at (rowIn way′ (l .table)) (l .column)) (s .listed) h

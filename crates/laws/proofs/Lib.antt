@@ -8,6 +8,7 @@ pub mod Ways
 pub mod Qualified
 pub mod Meanings
 pub mod Through
+pub mod Sound
 pub mod Models
 pub mod Stores
 pub mod Changes

@@ -12,7 +12,6 @@ use lib.Dec.{T, eqb}
 use lib.ListN.{length, getD, take, drop, set, replicate, length-map, length-append}
 use lib.Seq.{getD-set-same, getD-set-other, drop-drop, take-add}
 use Rattle.lists.specs.Lists.{Words, all, any, select, flat, from, upTo, sum}
-use Rattle.lists.specs.Totals.{total}
 use Rattle.lists.proofs.Truth.{Mem, eq→eqb, eqb→≡, decided, and-fst, and-snd, and-both, mem-append}
 use Rattle.lists.proofs.Places.{getD-map-from, length-from}
 
@@ -36,21 +35,33 @@ pub length-upTo : {A : Type 0} (f : ℕ → A) (n : ℕ) → length (map f (upTo
 length-upTo f n = length-map (upTo n) f ∙ length-from 0 n
 
 -- A chain of tests a && b && .., and the facts it stands for
-abbrev pub tests : Bool → List Bool → Bool
-tests a [] = a
-tests a (b ∷ bs) = tests (a && b) bs
+abbrev chainFrom : Bool → List Bool → Bool
+chainFrom a [] = a
+chainFrom a (b ∷ bs) = chainFrom (a && b) bs
+
+abbrev pub chain : List Bool → Bool
+chain [] = true
+chain (a ∷ bs) = chainFrom a bs
 
 abbrev pub Each : List Bool → Type 0
 Each [] = Unit {0}
 Each (b ∷ bs) = T b × Each bs
 
-pub apart : (a : Bool) (bs : List Bool) → T (tests a bs) → Each (a ∷ bs)
-apart a [] h = (h, tt)
-apart a (b ∷ bs) h = let k = apart (a && b) bs h in (and-fst a b (k .0), (and-snd a b (k .0), k .1))
+apart-from : (a : Bool) (bs : List Bool) → T (chainFrom a bs) → Each (a ∷ bs)
+apart-from a [] h = (h, tt)
+apart-from a (b ∷ bs) h = let k = apart-from (a && b) bs h in (and-fst a b (k .0), (and-snd a b (k .0), k .1))
 
-pub together : (a : Bool) (bs : List Bool) → Each (a ∷ bs) → T (tests a bs)
-together a [] h = h .0
-together a (b ∷ bs) h = together (a && b) bs (and-both a b (h .0) (h .1 .0), h .1 .1)
+pub apart : (bs : List Bool) → T (chain bs) → Each bs
+apart [] h = tt
+apart (a ∷ bs) h = apart-from a bs h
+
+together-from : (a : Bool) (bs : List Bool) → Each (a ∷ bs) → T (chainFrom a bs)
+together-from a [] h = h .0
+together-from a (b ∷ bs) h = together-from (a && b) bs (and-both a b (h .0) (h .1 .0), h .1 .1)
+
+pub together : (bs : List Bool) → Each bs → T (chain bs)
+together [] h = tt
+together (a ∷ bs) h = together-from a bs h
 
 -- the one element of a list with no second
 pub single : {A : Type 0} (d x : A) (xs : List A) → length xs ≤ 1 → Mem x xs → getD xs 0 d ≡ x
@@ -101,11 +112,6 @@ select-append p (x ∷ xs) ys = go (p x) (select-append p xs ys)
 pub map-append : {A B : Type 0} (f : A → B) (xs ys : List A) → map f (xs ++ ys) ≡ map f xs ++ map f ys
 map-append f [] ys = refl
 map-append f (x ∷ xs) ys = ap (λ l. f x ∷ l) (map-append f xs ys)
-
-pub total-le : {A : Type 0} (f g : A → ℕ) (xs : List A) → ((x : A) → f x ≤ g x) → total f xs ≤ total g xs
-unfolding total
-total-le f g [] h = omega arith
-total-le f g (x ∷ xs) h = omega (arith, h x, total-le f g xs h)
 
 -- the front of a sum, with its next term
 pub sum-front : (f : ℕ → ℕ) (n i k : ℕ) → k < n → sum (map f (from i k)) + f (i + k) ≤ sum (map f (from i n))

@@ -2,7 +2,7 @@
 -- Assumes nothing.
 use Prim.Native.Nat.{ℕ, _+_, _*_, _-_, _<_, _≤_}
 use mathlib.Core.Path.{_≡_, refl, sym, ap, ap₂, _∙_, subst}
-use mathlib.Core.Bool.{Bool, true, false, cond, _||_}
+use mathlib.Core.Bool.{Bool, true, false, cond}
 use mathlib.Core.List.{[], _∷_, _++_, map}
 use mathlib.Core.Logic.{⊎-elim}
 use native.Mathlib.Nat.{zero-add, mul-le-mul-right}
@@ -12,7 +12,7 @@ use lib.ListN.{length, take, drop, replicate, length-append, length-replicate, L
 use lib.Seq.{drop-append-add, getD-append-seam, drop-at, take-at, take-take}
 use borrow.Author.Tests.{ltb-true, ltb-false}
 use Rattle.lists.specs.Lists.{Words, at, all, flat, from, upTo, sum}
-use Rattle.lists.proofs.Truth.{all-get, all-make, map-same, mem-upTo, upTo-mem, from-mem, eq→eqb, decided, or-inl, or-inr}
+use Rattle.lists.proofs.Truth.{all-get, all-make, map-same, mem-upTo, upTo-mem, decided}
 use Rattle.lists.proofs.Places.{block, map-getD}
 use Rattle.rows.specs.Rows.{Rows, cut, rising, noKeyTwice}
 use Rattle.rows.proofs.Cut.{Wide, length-flat, cut-flat}
@@ -20,9 +20,10 @@ use Rattle.meaning.specs.Sheet.{Sheet, tables, room}
 use Rattle.meaning.specs.Plan.{kept, columns, size, start, storeLength}
 use Rattle.meaning.specs.Base.{rowsOf}
 use Rattle.meaning.specs.Meaning.{Model}
-use Rattle.meaning.specs.Store.{partsOf, partRows, counts, padded, storeOf, count, partWords, rowsAt, modelOf, soundPart, soundTable, sound, fits, stretchOf}
-use Rattle.laws.proofs.Lists.{here-or, at-upTo, together, length-flat-map, zeros}
+use Rattle.meaning.specs.Store.{partsOf, partRows, counts, padded, storeOf, count, partWords, rowsAt, modelOf, sound, fits, stretchOf}
+use Rattle.laws.proofs.Lists.{here-or, at-upTo, length-flat-map, zeros}
 use Rattle.laws.proofs.Sheets.{Good}
+use Rattle.laws.proofs.Sound.{sound-make}
 
 -- The parts of a model with n side tables
 module _ (m : Model) (n : ℕ) (many : length (m .sides) ≡ n) where
@@ -152,47 +153,22 @@ module _ (s : Sheet) (g : Good s) (m : Model) (p : Proper s m) (fit : T (fits s 
   unfolding storeOf counts storeLength start room-words
   store-long = length-append (counts m) (flat (map room-words (partsOf s))) ∙ ap (λ k. 9 + k) (length-flat-map room-words (size s) room-long (partsOf s))
 
-  sound-part : (part : ℕ) → part ≤ s .n → T (soundPart s (storeOf s m) part)
-  unfolding soundPart
-  sound-part part l =
-      let ws = storeOf s m in
-      together (leb (count s ws part) (room s part)) (rising (rowsAt s ws part) ∷ all (eqb 0) (drop (count s ws part * columns s part) (partWords s ws part)) ∷ []) (
-        subst (λ (k : ℕ). T (leb k (room s part))) (sym (part-count part l)) (le→leb (length (partRows m part)) (room s part) (fits-get s m fit part l)),
-        (
-          subst (λ (rows : Rows). T (rising rows)) (sym (rows-at part l)) (p .in-order part l),
-          (subst (λ (k : Words). T (all (eqb 0) k)) (sym unused) (zeros (size s part - length (flat (partRows m part)))), tt),
-        ),
-      )
-    where
-      unused : drop (count s (storeOf s m) part * columns s part) (partWords s (storeOf s m) part) ≡ replicate (size s part - length (flat (partRows m part))) 0
-      unused =
-          ap₂ (λ k w. drop (k * columns s part) w) (part-count part l) (part-words part l)
-          ∙ drop-at (flat (partRows m part)) (replicate (size s part - length (flat (partRows m part))) 0) (length (partRows m part) * columns s part) (flat-long part l)
-
-  sound-table : (t : ℕ) → t < s .n → T (soundTable s (storeOf s m) t)
-  unfolding soundTable
-  sound-table t l =
-      let ws = storeOf s m in
-      together (kept s t || eqb (count s ws t) 0) (noKeyTwice (rowsAt s ws t) ∷ []) (
-        ⊎-elim (λ k. or-inl (kept s t) (eqb (count s ws t) 0) k)
-            (λ k. or-inr (kept s t) (eqb (count s ws t) 0) (eq→eqb (part-count t (omega arith) ∙ ap length (p .unkept t l k)))) (decided (kept s t)),
-        (subst (λ (rows : Rows). T (noKeyTwice rows)) (sym (rows-at t (omega arith))) (p .once t l), tt),
-      )
+  unused : (part : ℕ) → part ≤ s .n
+      → drop (count s (storeOf s m) part * columns s part) (partWords s (storeOf s m) part) ≡ replicate (size s part - length (flat (partRows m part))) 0
+  unused part l =
+      let words = flat (partRows m part) in
+      ap₂ (λ k w. drop (k * columns s part) w) (part-count part l) (part-words part l)
+      ∙ drop-at words (replicate (size s part - length words) 0) (length (partRows m part) * columns s part) (flat-long part l)
 
   pub store-sound : T (sound s (storeOf s m))
-  unfolding sound
   store-sound =
-      let ws = storeOf s m in
-      together (eqb (length ws) (storeLength s))
-      (all (λ t. eqb (at ws t) 0) (from (s .n) (8 - s .n)) ∷ all (soundPart s ws) (partsOf s) ∷ all (soundTable s ws) (tables s) ∷ []) (
-        eq→eqb store-long,
-        (
-          all-make (λ t. eqb (at ws t) 0) (from (s .n) (8 - s .n)) (λ t i. let b = from-mem (s .n) (8 - s .n) t i in
-              let l : t < 8 = omega (arith, b .1, g .counts .eight) in
-              eq→eqb (count-at t l ∙ ap length (List·getD-eq-default (m .sides) [] (omega (arith, b .0, p .many))))),
-          (
-            all-make (soundPart s ws) (partsOf s) (λ part i. sound-part part (omega (arith, upTo-mem (s .n + 1) part i))),
-            (all-make (soundTable s ws) (tables s) (λ t i. sound-table t (upTo-mem (s .n) t i)), tt),
-          ),
-        ),
-      )
+      sound-make s (g .counts .eight) (storeOf s m)
+      (record {
+        long = store-long;
+        absent = λ t l k. count-at t k ∙ ap length (List·getD-eq-default (m .sides) [] (omega (arith, p .many)));
+        within = λ part l. subst (λ (k : ℕ). k ≤ room s part) (sym (part-count part l)) (fits-get s m fit part l);
+        in-order = λ part l. subst (λ (rows : Rows). T (rising rows)) (sym (rows-at part l)) (p .in-order part l);
+        unused = λ part l. subst (λ (k : Words). T (all (eqb 0) k)) (sym (unused part l)) (zeros (size s part - length (flat (partRows m part))));
+        unkept = λ t l k. part-count t (omega arith) ∙ ap length (p .unkept t l k);
+        once = λ t l. subst (λ (rows : Rows). T (noKeyTwice rows)) (sym (rows-at t (omega arith))) (p .once t l);
+      })

@@ -98,7 +98,8 @@ change-number sheet store c =
 pub change-first : (sheet store : Words) (c : Change) → First (changeTests sheet store c) (change sheet store c .number)
 unfolding changeRefusal
 change-first sheet store c =
-    subst (First (changeTests sheet store c)) (sym (change-number sheet store c ∙ sheet-chain sheet (drop 3 (changeTests sheet store c)))) (first-of (changeTests sheet store c))
+    subst (First (changeTests sheet store c)) (sym (change-number sheet store c ∙ sheet-chain sheet (drop 3 (changeTests sheet store c))))
+    (first-of (changeTests sheet store c))
 
 pub change-passed : (sheet store : Words) (c : Change) → change sheet store c .number ≡ 0 → Passed (changeTests sheet store c)
 change-passed sheet store c e = first-zero (changeTests sheet store c) tt _ (change-first sheet store c) e
@@ -107,7 +108,8 @@ pub change-accepted : (sheet store : Words) (c : Change) → change sheet store 
 unfolding change
 change-accepted sheet store c e = cond-true (eqb (changeRefusal sheet store c) 0) _ _ (eq→eqb (sym (change-number sheet store c) ∙ e))
 
-pub change-refused : (sheet store : Words) (c : Change) → Refused (change sheet store c .number) → change sheet store c ≡ refused (changeRefusal sheet store c) store
+pub change-refused : (sheet store : Words) (c : Change) → Refused (change sheet store c .number)
+    → change sheet store c ≡ refused (changeRefusal sheet store c) store
 unfolding change
 change-refused sheet store c d =
     cond-false (eqb (changeRefusal sheet store c) 0) _ _ (λ h. d (change-number sheet store c ∙ eqb→≡ (changeRefusal sheet store c) 0 h))
@@ -121,7 +123,8 @@ fill-number sheet store run =
 pub fill-first : (sheet store run : Words) → First (fillTests sheet store run) (fill sheet store run .number)
 unfolding fillRefusal
 fill-first sheet store run =
-    subst (First (fillTests sheet store run)) (sym (fill-number sheet store run ∙ sheet-chain sheet (drop 3 (fillTests sheet store run)))) (first-of (fillTests sheet store run))
+    subst (First (fillTests sheet store run)) (sym (fill-number sheet store run ∙ sheet-chain sheet (drop 3 (fillTests sheet store run))))
+    (first-of (fillTests sheet store run))
 
 pub fill-passed : (sheet store run : Words) → fill sheet store run .number ≡ 0 → Passed (fillTests sheet store run)
 fill-passed sheet store run e = first-zero (fillTests sheet store run) tt _ (fill-first sheet store run) e

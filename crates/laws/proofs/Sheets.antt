@@ -57,45 +57,54 @@ pub record Good (s : Sheet) : Type 0 where
   pub shallow : (t : ℕ) → t < s .n → depth t < s .n
   pub root-top : depth (root s) ≡ 0
 
--- what the tests say of a sheet beyond its counts
-module _ (s : Sheet) (c : Counted s) (words-good : T (goodWords s)) (tree-good : T (goodTree s)) where
-  words : Each (all (between 1 8) (s .widths) ∷ all (goodEdge s) (s .edges) ∷ all (goodCondition s) (s .conditions)
-      ∷ all (goodListed s) (s .listed) ∷ noneTwice sameListed (s .listed) ∷ all (between 0 4096) (s .rooms) ∷ [])
-  unfolding goodWords
-  words =
-      apart (all (between 1 8) (s .widths))
-      (all (goodEdge s) (s .edges) ∷ all (goodCondition s) (s .conditions) ∷ all (goodListed s) (s .listed) ∷ noneTwice sameListed (s .listed)
-      ∷ all (between 0 4096) (s .rooms) ∷ [])
-      words-good
+-- the tests of a sheet beyond its counts, one by one
+abbrev wordTests : Sheet → List Bool
+wordTests s =
+    all (between 1 8) (s .widths) ∷ all (goodEdge s) (s .edges) ∷ all (goodCondition s) (s .conditions) ∷ all (goodListed s) (s .listed)
+    ∷ noneTwice sameListed (s .listed) ∷ all (between 0 4096) (s .rooms) ∷ []
 
-  width-in : (t : ℕ) → t < s .n → Each (leb 1 (width s t) ∷ leb (width s t) 8 ∷ [])
+abbrev betweenTests : ℕ → ℕ → ℕ → List Bool
+betweenTests lowest highest x = leb lowest x ∷ leb x highest ∷ []
+
+abbrev edgeTests : Sheet → Edge → List Bool
+edgeTests s e = ltb (e .child) (s .n) ∷ ltb (e .column) (width s (e .child)) ∷ leb 1 (e .column) ∷ ltb (e .parent) (s .n) ∷ leb (e .promise) 1 ∷ []
+
+abbrev conditionTests : Sheet → Condition → List Bool
+conditionTests s d = ltb (d .table) (s .n) ∷ ltb (d .column) (width s (d .table)) ∷ leb (d .lowest) (d .highest) ∷ []
+
+abbrev listedTests : Sheet → Listed → List Bool
+listedTests s l = ltb (l .table) (s .n) ∷ ltb (l .column) (width s (l .table)) ∷ []
+
+abbrev treeTests : Sheet → List Bool
+treeTests s =
+    eqb (length (select (isRoot s) (tables s))) 1 ∷ all (λ t. leb (length (edgesInto s t)) 1) (tables s) ∷ all (reached s (s .n - 1)) (tables s) ∷ []
+
+module _ (s : Sheet) (c : Counted s) (words-good : T (goodWords s)) (tree-good : T (goodTree s)) where
+  words : Each (wordTests s)
+  unfolding goodWords
+  words = apart (wordTests s) words-good
+
+  width-in : (t : ℕ) → t < s .n → Each (betweenTests 1 8 (width s t))
   width-in t l =
-      apart (leb 1 (width s t)) (leb (width s t) 8 ∷ [])
+      apart (betweenTests 1 8 (width s t))
       (all-get (between 1 8) (s .widths) (words .0) (width s t) (mem-getD 0 (s .widths) t (omega (arith, c .widths-many))))
 
-  room-in : (t : ℕ) → t ≤ s .n → Each (leb 0 (room s t) ∷ leb (room s t) 4096 ∷ [])
+  room-in : (t : ℕ) → t ≤ s .n → Each (betweenTests 0 4096 (room s t))
   room-in t l =
-      apart (leb 0 (room s t)) (leb (room s t) 4096 ∷ [])
+      apart (betweenTests 0 4096 (room s t))
       (all-get (between 0 4096) (s .rooms) (words .1 .1 .1 .1 .1 .0) (room s t) (mem-getD 0 (s .rooms) t (omega (arith, c .rooms-many))))
 
-  edge : (e : Edge) → Mem e (s .edges)
-      → Each (ltb (e .child) (s .n) ∷ ltb (e .column) (width s (e .child)) ∷ leb 1 (e .column) ∷ ltb (e .parent) (s .n) ∷ leb (e .promise) 1 ∷ [])
+  edge : (e : Edge) → Mem e (s .edges) → Each (edgeTests s e)
   unfolding goodEdge
-  edge e m =
-      apart (ltb (e .child) (s .n)) (ltb (e .column) (width s (e .child)) ∷ leb 1 (e .column) ∷ ltb (e .parent) (s .n) ∷ leb (e .promise) 1 ∷ [])
-      (all-get (goodEdge s) (s .edges) (words .1 .0) e m)
+  edge e m = apart (edgeTests s e) (all-get (goodEdge s) (s .edges) (words .1 .0) e m)
 
-  condition : (d : Condition) → Mem d (s .conditions)
-      → Each (ltb (d .table) (s .n) ∷ ltb (d .column) (width s (d .table)) ∷ leb (d .lowest) (d .highest) ∷ [])
+  condition : (d : Condition) → Mem d (s .conditions) → Each (conditionTests s d)
   unfolding goodCondition
-  condition d m =
-      apart (ltb (d .table) (s .n)) (ltb (d .column) (width s (d .table)) ∷ leb (d .lowest) (d .highest) ∷ [])
-      (all-get (goodCondition s) (s .conditions) (words .1 .1 .0) d m)
+  condition d m = apart (conditionTests s d) (all-get (goodCondition s) (s .conditions) (words .1 .1 .0) d m)
 
-  listed : (l : Listed) → Mem l (s .listed) → Each (ltb (l .table) (s .n) ∷ ltb (l .column) (width s (l .table)) ∷ [])
+  listed : (l : Listed) → Mem l (s .listed) → Each (listedTests s l)
   unfolding goodListed
-  listed l m =
-      apart (ltb (l .table) (s .n)) (ltb (l .column) (width s (l .table)) ∷ []) (all-get (goodListed s) (s .listed) (words .1 .1 .1 .0) l m)
+  listed l m = apart (listedTests s l) (all-get (goodListed s) (s .listed) (words .1 .1 .1 .0) l m)
 
   child-in : (e : Edge) → Mem e (s .edges) → e .child < s .n
   child-in e m = ltb→lt (e .child) (s .n) (edge e m .0)
@@ -104,11 +113,9 @@ module _ (s : Sheet) (c : Counted s) (words-good : T (goodWords s)) (tree-good :
   parent-in e m = ltb→lt (e .parent) (s .n) (edge e m .1 .1 .1 .0)
 
   -- the tree
-  tree : Each (eqb (length (select (isRoot s) (tables s))) 1 ∷ all (λ t. leb (length (edgesInto s t)) 1) (tables s) ∷ all (reached s (s .n - 1)) (tables s) ∷ [])
+  tree : Each (treeTests s)
   unfolding goodTree
-  tree =
-      apart (eqb (length (select (isRoot s) (tables s))) 1)
-      (all (λ t. leb (length (edgesInto s t)) 1) (tables s) ∷ all (reached s (s .n - 1)) (tables s) ∷ []) tree-good
+  tree = apart (treeTests s) tree-good
 
   one-root : length (select (isRoot s) (tables s)) ≡ 1
   one-root = eqb→≡ (length (select (isRoot s) (tables s))) 1 (tree .0)
@@ -149,7 +156,8 @@ module _ (s : Sheet) (c : Counted s) (words-good : T (goodWords s)) (tree-good :
   settled : (k t : ℕ) → t < s .n → T (reached s k t) → (depthIn (suc k) t ≡ depthIn k t) × (depthIn k t ≤ k)
   unfolding depthIn
   settled zero t l h = (cond-true (isRoot s t) 0 1 h, omega arith)
-  settled (suc k) t l h = go (isRoot s t) refl (or-cases (isRoot s t) (any (λ e. reached s k (e .child)) (edgesInto s t)) h) (λ l h. settled k (edgeInto s t .child) l h)
+  settled (suc k) t l h =
+      go (isRoot s t) refl (or-cases (isRoot s t) (any (λ e. reached s k (e .child)) (edgesInto s t)) h) (λ l h. settled k (edgeInto s t .child) l h)
     where
       q : ℕ
       q = edgeInto s t .child
@@ -232,18 +240,19 @@ counted ws h =
     let e = at ws 1 in
     let c = at ws 2 in
     let p = at ws 3 in
-    let k = apart (leb 1 n) (leb n 8 ∷ eqb (e + 1) n ∷ between 0 16 c ∷ between 1 16 p ∷ eqb (length ws) (4 + 2 * n + 1 + 4 * e + 4 * c + 2 * p) ∷ []) h in
-    let c-in = apart (leb 0 c) (leb c 16 ∷ []) (k .1 .1 .1 .0) in
-    let p-in = apart (leb 1 p) (leb p 16 ∷ []) (k .1 .1 .1 .1 .0) in
+    let k = apart (leb 1 n ∷ leb n 8 ∷ eqb (e + 1) n ∷ between 0 16 c ∷ between 1 16 p ∷ eqb (length ws) (4 + 2 * n + 1 + 4 * e + 4 * c + 2 * p) ∷ []) h in
+    let c-in = apart (leb 0 c ∷ leb c 16 ∷ []) (k .1 .1 .1 .0) in
+    let p-in = apart (leb 1 p ∷ leb p 16 ∷ []) (k .1 .1 .1 .1 .0) in
     let edges-are : e + 1 ≡ n = eqb→≡ (e + 1) n (k .1 .1 .0) in
     let long : length ws ≡ 4 + 2 * n + 1 + 4 * e + 4 * c + 2 * p = eqb→≡ (length ws) _ (k .1 .1 .1 .1 .1 .0) in
+    let c-is : length (sheetOf ws .conditions) ≡ c = length-map (cut 4 c (drop (conditionsAt ws) ws)) conditionOf ∙ cut-length 4 c _ in
     let p-is : length (sheetOf ws .listed) ≡ p = length-map (cut 2 p (drop (listedAt ws) ws)) listedOf ∙ cut-length 2 p _ in
     record {
       some = leb→le 1 n (k .0);
       eight = leb→le n 8 (k .1 .0);
       widths-many = length-take n (drop 4 ws) ∙ omega (arith, length-drop 4 ws);
       edges-many = ap (λ k. k + 1) (length-map (cut 4 e (drop (edgesAt ws) ws)) edgeOf ∙ cut-length 4 e _) ∙ edges-are;
-      conditions-many = subst (λ (k : ℕ). k ≤ 16) (sym (length-map (cut 4 c (drop (conditionsAt ws) ws)) conditionOf ∙ cut-length 4 c _)) (leb→le c 16 (c-in .1 .0));
+      conditions-many = subst (λ (k : ℕ). k ≤ 16) (sym c-is) (leb→le c 16 (c-in .1 .0));
       listed-some = subst (λ (k : ℕ). 1 ≤ k) (sym p-is) (leb→le 1 p (p-in .0));
       listed-many = subst (λ (k : ℕ). k ≤ 16) (sym p-is) (leb→le p 16 (p-in .1 .0));
       rooms-many = length-drop (roomsAt ws) ws ∙ omega arith;

@@ -3,17 +3,16 @@
 -- Assumes nothing.
 use Prim.Native.Nat.{ℕ, suc, _+_, _*_, _-_, _<_, _≤_}
 use mathlib.Core.Path.{_≡_, refl, sym, ap, ap₂, _∙_, subst}
-use mathlib.Core.Bool.{_||_}
 use mathlib.Core.List.{[], _∷_, _++_, map}
 use mathlib.Core.Logic.{_⊎_, inl, inr, ⊎-elim}
 use native.Mathlib.Nat.{zero-add, mul-le-mul-right}
 use native.Mathlib.Omega.{arith}
-use lib.Dec.{T, ltb, leb, eqb, ltb→lt, leb→le}
+use lib.Dec.{T, ltb, ltb→lt}
 use lib.ListN.{length, take, drop, replicate, length-map, length-drop, take-append-drop, List·getD-append, List·getD-eq-default}
 use lib.Seq.{ext-getD, getD-take, length-take-le, take-all}
 use borrow.Author.Tests.{ltb-false}
-use Rattle.lists.specs.Lists.{Words, at, all, flat, from, upTo, sum}
-use Rattle.lists.proofs.Truth.{F→≡, all-get, map-same, mem-upTo, upTo-mem, mem-from, eqb→≡, decided, or-cases, cond-true, cond-false}
+use Rattle.lists.specs.Lists.{Words, at, flat, upTo, sum}
+use Rattle.lists.proofs.Truth.{F→≡, map-same, upTo-mem, decided, cond-true, cond-false}
 use Rattle.rows.specs.Rows.{Rows, pick, rising, sorted, noKeyTwice}
 use Rattle.rows.proofs.Sorted.{rising-none, rising-sorted}
 use Rattle.rows.proofs.Cut.{Wide, cut-length, wide-cut, flat-cut}
@@ -21,14 +20,15 @@ use Rattle.meaning.specs.Sheet.{Sheet, tables, room}
 use Rattle.meaning.specs.Plan.{kept, shown, columns, size, start, storeLength}
 use Rattle.meaning.specs.Base.{Tables, rowsOf}
 use Rattle.meaning.specs.Meaning.{qualified, ways, listRow, theList, Model, meaning}
-use Rattle.meaning.specs.Store.{partsOf, partRows, counts, padded, storeOf, count, partWords, rowsAt, modelOf, soundPart, soundTable, sound, fits}
-use Rattle.laws.proofs.Lists.{here-or, at-upTo, length-upTo, Each, apart, sum-front, sum-last, blocks, zeros-are}
+use Rattle.meaning.specs.Store.{partsOf, partRows, counts, padded, storeOf, count, partWords, rowsAt, modelOf, sound, fits}
+use Rattle.laws.proofs.Lists.{here-or, at-upTo, length-upTo, sum-front, sum-last, blocks, zeros-are}
 use Rattle.laws.proofs.Sheets.{Good}
 use Rattle.laws.proofs.Columns.{columns-side, columns-list, key-pick, list-row-length}
 use Rattle.laws.proofs.Keys.{once-sorted, once-map, once-select, wide-map, wide-sorted}
 use Rattle.laws.proofs.Qualified.{qualifiedOf, qualified-is, side-kept, side-unkept}
 use Rattle.laws.proofs.Ways.{wayRows, list-rising}
 use Rattle.laws.proofs.Meanings.{Lawful, meaning-many, meaning-side, meaning-list}
+use Rattle.laws.proofs.Sound.{Sound, sound-get}
 use Rattle.laws.proofs.Models.{part-side, by-part, Proper, fits-make}
 
 -- where a part begins, and that it ends within the store
@@ -42,45 +42,6 @@ part-inside s part l =
     let e : size s (0 + part) ≡ size s part = ap (size s) (zero-add part) in
     let h : part < s .n + 1 = omega arith in
     omega (arith, sum-front (size s) (s .n + 1) 0 part h)
-
--- what a sound store is
-pub record Sound (s : Sheet) (ws : Words) : Type 0 where
-  pub long : length ws ≡ storeLength s
-  pub absent : (t : ℕ) → s .n ≤ t → t < 8 → at ws t ≡ 0
-  pub within : (part : ℕ) → part ≤ s .n → count s ws part ≤ room s part
-  pub in-order : (part : ℕ) → part ≤ s .n → T (rising (rowsAt s ws part))
-  pub unused : (part : ℕ) → part ≤ s .n → T (all (eqb 0) (drop (count s ws part * columns s part) (partWords s ws part)))
-  pub unkept : (t : ℕ) → t < s .n → (T (kept s t) → ⊥) → count s ws t ≡ 0
-  pub once : (t : ℕ) → t < s .n → T (noKeyTwice (rowsAt s ws t))
-
-pub sound-get : (s : Sheet) (ws : Words) → T (sound s ws) → Sound s ws
-unfolding sound soundPart soundTable
-sound-get s ws h =
-    record {
-      long = eqb→≡ (length ws) (storeLength s) (tests .0);
-      absent = λ t l k. eqb→≡ (at ws t) 0 (all-get (λ t. eqb (at ws t) 0) (from (s .n) (8 - s .n)) (tests .1 .0) t (mem-from (s .n) (8 - s .n) t l (omega arith)));
-      within = λ part l. leb→le (count s ws part) (room s part) (of-part part l .0);
-      in-order = λ part l. of-part part l .1 .0;
-      unused = λ part l. of-part part l .1 .1 .0;
-      unkept = λ t l k. eqb→≡ (count s ws t) 0 (⊎-elim (λ i. absurd (k i)) (λ e. e) (or-cases (kept s t) (eqb (count s ws t) 0) (of-table t l .0)));
-      once = λ t l. of-table t l .1 .0;
-    }
-  where
-    tests : Each (eqb (length ws) (storeLength s) ∷ all (λ t. eqb (at ws t) 0) (from (s .n) (8 - s .n)) ∷ all (soundPart s ws) (partsOf s) ∷ all (soundTable s ws) (tables s) ∷ [])
-    tests =
-        apart (eqb (length ws) (storeLength s))
-        (all (λ t. eqb (at ws t) 0) (from (s .n) (8 - s .n)) ∷ all (soundPart s ws) (partsOf s) ∷ all (soundTable s ws) (tables s) ∷ []) h
-
-    of-part : (part : ℕ) → part ≤ s .n
-        → Each (leb (count s ws part) (room s part) ∷ rising (rowsAt s ws part) ∷ all (eqb 0) (drop (count s ws part * columns s part) (partWords s ws part)) ∷ [])
-    of-part part l =
-        apart (leb (count s ws part) (room s part)) (rising (rowsAt s ws part) ∷ all (eqb 0) (drop (count s ws part * columns s part) (partWords s ws part)) ∷ [])
-        (all-get (soundPart s ws) (partsOf s) (tests .1 .1 .0) part (mem-upTo (s .n + 1) part (omega arith)))
-
-    of-table : (t : ℕ) → t < s .n → Each ((kept s t || eqb (count s ws t) 0) ∷ noKeyTwice (rowsAt s ws t) ∷ [])
-    of-table t l =
-        apart (kept s t || eqb (count s ws t) 0) (noKeyTwice (rowsAt s ws t) ∷ [])
-        (all-get (soundTable s ws) (tables s) (tests .1 .1 .1 .0) t (mem-upTo (s .n) t l))
 
 -- the model of a store
 pub model-many : (s : Sheet) (ws : Words) → length (modelOf s ws .sides) ≡ s .n
@@ -164,7 +125,8 @@ module _ (s : Sheet) (g : Good s) (ws : Words) (h : T (sound s ws)) where
       each : (i : ℕ) → i < 9 → at (counts m) i ≡ at ws i
       each i l =
           here-or (λ i. i < 9 → at (counts m) i ≡ at ws i) 8 i
-          (λ l. rows-count s ws (s .n) ∙ ap (at ws) (cond-false (ltb (s .n) (s .n)) (s .n) 8 (λ k. let d : s .n < s .n = ltb→lt (s .n) (s .n) k in omega arith)))
+          (λ l. rows-count s ws (s .n)
+          ∙ ap (at ws) (cond-false (ltb (s .n) (s .n)) (s .n) 8 (λ k. let d : s .n < s .n = ltb→lt (s .n) (s .n) k in omega arith)))
           (λ d l. let k : i < 8 = omega arith in
           List·getD-append (map rows (upTo 8)) (length (m .list) ∷ []) 0 i k ∙ at-upTo rows 0 8 i k ∙ table i k (decided (ltb i (s .n)))) l
 
@@ -205,13 +167,15 @@ module _ (s : Sheet) (g : Good s) (B : Tables) (law : Lawful s B) where
   side-proper : (P : Rows → Type 0) (t : ℕ) → t < s .n → (T (kept s t) → P (sorted (map (pick (shown s t)) (qualifiedOf s B t)))) → P []
       → P (rowsOf (meaning s B .sides) t)
   side-proper P t l h e =
-      ⊎-elim (λ k. subst P (sym (meaning-side s B t l ∙ side-kept s B t k)) (h k)) (λ k. subst P (sym (meaning-side s B t l ∙ side-unkept s B t k)) e) (decided (kept s t))
+      ⊎-elim (λ k. subst P (sym (meaning-side s B t l ∙ side-kept s B t k)) (h k)) (λ k. subst P (sym (meaning-side s B t l ∙ side-unkept s B t k)) e)
+      (decided (kept s t))
 
   side-once : (t : ℕ) → t < s .n → T (noKeyTwice (sorted (map (pick (shown s t)) (qualifiedOf s B t))))
   side-once t l =
       once-sorted (map (pick (shown s t)) (qualifiedOf s B t))
       (once-map (pick (shown s t)) (qualifiedOf s B t) (λ r m. key-pick s g t l r)
-      (subst (λ (rows : Rows). T (noKeyTwice rows)) (sym (qualified-is s g B t l)) (once-select (qualified s (qualifiedOf s B) t) (rowsOf B t) (law .keys t l))))
+      (subst (λ (rows : Rows). T (noKeyTwice rows)) (sym (qualified-is s g B t l))
+      (once-select (qualified s (qualifiedOf s B) t) (rowsOf B t) (law .keys t l))))
 
   pub meaning-proper : Proper s (meaning s B)
   unfolding theList

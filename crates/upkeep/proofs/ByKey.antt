@@ -31,7 +31,7 @@ use Rattle.laws.proofs.Qualified.{joins-get, qualifiedOf, qualified-mem, way-in
 use Rattle.laws.proofs.Through.{wide-side}
 use Rattle.laws.proofs.Meanings.{meaning-side}
 use Rattle.upkeep.proofs.Tied.{Tied}
-use Rattle.upkeep.proofs.Replace.{having}
+use Rattle.upkeep.proofs.Replace.{Frame, having, alone}
 
 -- Base tables in which no key stands twice, and one of their ways
 module _ (s : Sheet) (g : Good s) (B : Tables) (many : length B ≡ s .n) (once : (t : ℕ) → t < s .n → T (noKeyTwice (rowsOf B t)))
@@ -46,11 +46,13 @@ module _ (s : Sheet) (g : Good s) (B : Tables) (many : length B ≡ s .n) (once 
   joined = and-fst (joins s way) (holds s way) w
 
   -- a test of some row of a side table at full width
-  wide-any : (p : Row → Bool) (u : ℕ) → u < s .n → T (kept s u) → any p (rowsOf (wideSides s m) u) ≡ any (λ x. p (widened s u (pick (shown s u) x))) (qualifiedOf s B u)
+  wide-any : (p : Row → Bool) (u : ℕ) → u < s .n → T (kept s u)
+      → any p (rowsOf (wideSides s m) u) ≡ any (λ x. p (widened s u (pick (shown s u) x))) (qualifiedOf s B u)
   wide-any p u l k =
       ap (any p) (wide-side s m u l ∙ ap (map (widened s u)) (meaning-side s B u l ∙ side-kept s B u k))
       ∙ any-map p (widened s u) (sorted (map (pick (shown s u)) (qualifiedOf s B u)))
-      ∙ any-of (λ x. p (widened s u x)) (sorted (map (pick (shown s u)) (qualifiedOf s B u))) (map (pick (shown s u)) (qualifiedOf s B u)) (same-sorted (map (pick (shown s u)) (qualifiedOf s B u)))
+      ∙ any-of (λ x. p (widened s u x)) (sorted (map (pick (shown s u)) (qualifiedOf s B u))) (map (pick (shown s u)) (qualifiedOf s B u))
+      (same-sorted (map (pick (shown s u)) (qualifiedOf s B u)))
       ∙ any-map (λ x. p (widened s u x)) (pick (shown s u)) (qualifiedOf s B u)
 
   -- one step: the child's row of the way has one of the keys passed to exactly if the row of t has one of the keys in hand
@@ -125,7 +127,8 @@ module _ (s : Sheet) (g : Good s) (B : Tables) (many : length B ≡ s .n) (once 
           → (Mem (root s) (cond b [] (cond (eqb t (root s)) (others s t) (c ∷ needIn s k c))) → ⊥)
           → ((keys : List ℕ) → c < s .n → (c ≡ root s → ⊥) → g .depth c < k → (Mem (root s) (needIn s k c) → ⊥)
           → showsKey s (keysReached s m k c keys) (listRow s way) ≡ member (key (rowIn way c)) keys)
-          → showsKey s (cond b (record { table = t; keys = keys }) (keysReached s m k c (referring s m t keys))) (listRow s way) ≡ member (key (rowIn way t)) keys
+          → showsKey s (cond b (record { table = t; keys = keys }) (keysReached s m k c (referring s m t keys))) (listRow s way)
+          ≡ member (key (rowIn way t)) keys
       go true e n ih =
           ap (λ v. member v keys)
           (key-place (λ l. at (rowIn way (l .table)) (l .column)) (s .listed) t (key (rowIn way t)) (λ l p q. ap₂ (λ u v. at (rowIn way u) v) p q) (isT e))
@@ -134,40 +137,49 @@ module _ (s : Sheet) (g : Good s) (B : Tables) (many : length B ≡ s .n) (once 
           ∙ pass t l d (kept-above s g c (child-of s g t l d) (λ q. n′ (inl (sym q)))) keys
         where
           n′ : Mem (root s) (c ∷ needIn s k c) → ⊥
-          n′ i = n (subst (λ (xs : List ℕ). Mem (root s) xs) (sym (cond-false (eqb t (root s)) (others s t) (c ∷ needIn s k c) (λ q. d (eqb→≡ t (root s) q)))) i)
+          n′ i =
+              n (subst (λ (xs : List ℕ). Mem (root s) xs) (sym (cond-false (eqb t (root s)) (others s t) (c ∷ needIn s k c) (λ q. d (eqb→≡ t (root s) q)))) i)
 
-module _ (s : Sheet) (g : Good s) (A : Tables) (many : length A ≡ s .n) (R : ℕ) (inside : R < s .n) (rest : Rows) (r : Row)
-    (once : (t : ℕ) → t < s .n → T (noKeyTwice (rowsOf (having A R rest (r ∷ [])) t))) (new : T (hasKey (key r) rest) → ⊥)
-    (cannot : T (canTake s R) → ⊥) where
+module _ (s : Sheet) (g : Good s) (fr : Frame s) (r : Row) (once : (t : ℕ) → t < s .n → T (noKeyTwice (rowsOf (having fr (r ∷ [])) t)))
+    (new : T (hasKey (key r) (fr .rest)) → ⊥) (cannot : T (canTake s (fr .table)) → ⊥) where
+  abbrev A : Tables
+  A = fr .base
+
+  abbrev R : ℕ
+  R = fr .table
+
+  abbrev rest : Rows
+  rest = fr .rest
+
   abbrev B : Tables
-  B = having A R rest (r ∷ [])
+  B = having fr (r ∷ [])
 
   abbrev finds : Row → Bool
   finds row = showsKey s (keysReached s (meaning s B) (s .n) R (key r ∷ [])) row
 
   l : R < length A
-  l = omega arith
+  l = omega (arith, fr .many, fr .inside)
 
   -- a list row is found exactly if its way goes through r
   found-by : (way : Way) → Takes way B → T (isWay s way) → finds (listRow s way) ≡ (eqb (key (rowIn way R)) (key r) || false)
   unfolding need
   found-by way k w =
-      reach s g B (length-set A R (r ∷ rest) ∙ many) once way k w (s .n) R (key r ∷ []) inside (cannot-root s g R cannot) (g .shallow R inside)
-      (not-needed s g (cannot-unkept s g R cannot) R inside)
+      reach s g B (length-set A R (r ∷ rest) ∙ fr .many) once way k w (s .n) R (key r ∷ []) (fr .inside) (cannot-root s g R cannot) (g .shallow R (fr .inside))
+      (not-needed s g (cannot-unkept s g R cannot) R (fr .inside))
 
-  through-r : (way : Way) → Takes way (set A R (r ∷ [])) → T (isWay s way) → finds (listRow s way) ≡ true
+  through-r : (way : Way) → Takes way (alone fr (r ∷ [])) → T (isWay s way) → finds (listRow s way) ≡ true
   through-r way k w =
       found-by way (takes-more way A R l (r ∷ []) k (r ∷ rest) (mem-left (r ∷ []) rest)) w
       ∙ ap (λ b. b || false) (T→≡ (eqb (key (rowIn way R)) (key r)) (eq→eqb (ap key (takes-one way A R l r k))))
 
-  not-through : (way : Way) → Takes way (set A R rest) → T (isWay s way) → finds (listRow s way) ≡ false
+  not-through : (way : Way) → Takes way (alone fr rest) → T (isWay s way) → finds (listRow s way) ≡ false
   not-through way k w =
       found-by way (takes-more way A R l rest k (r ∷ rest) (mem-right (r ∷ []) rest)) w
       ∙ ap (λ b. b || false) (F→≡ (eqb (key (rowIn way R)) (key r)) (λ q.
       new (subst (λ (k : ℕ). T (hasKey k rest)) (eqb→≡ (key (rowIn way R)) (key r) q) (key-mem (rowIn way R) rest (takes-here way A R l rest k)))))
 
   -- so the rows found are those of the ways through r
-  pub found-same : Same (rowsFound s (meaning s B) R r) (wayRows s (set A R (r ∷ [])))
+  pub found-same : Same (rowsFound s (meaning s B) R r) (wayRows s (alone fr (r ∷ [])))
   unfolding rowsFound meaning theList
   found-same f =
       total-select f finds (sorted (wayRows s B))
@@ -175,15 +187,16 @@ module _ (s : Sheet) (g : Good s) (A : Tables) (many : length A ≡ s .n) (R : �
       ∙ total-wayRows s B (λ row. cond (finds row) (f row) 0)
       ∙ choices-append count A R (r ∷ []) rest l
       ∙ ap₂ _+_
-      (total-ways count (λ way. cond (isWay s way) (f (listRow s way)) 0) (set A R (r ∷ [])) (λ way k. ours way (isWay s way) (λ w. through-r way k (isT w))))
-      (total-ways count (λ way. 0) (set A R rest) (λ way k. theirs way (isWay s way) (λ w. not-through way k (isT w))) ∙ total-zero (choices (set A R rest)))
-      ∙ add-zero (total (λ way. cond (isWay s way) (f (listRow s way)) 0) (choices (set A R (r ∷ []))))
-      ∙ sym (total-wayRows s (set A R (r ∷ [])) f)
+      (total-ways count (λ way. cond (isWay s way) (f (listRow s way)) 0) (alone fr (r ∷ [])) (λ way k. ours way (isWay s way) (λ w. through-r way k (isT w))))
+      (total-ways count (λ way. 0) (alone fr rest) (λ way k. theirs way (isWay s way) (λ w. not-through way k (isT w))) ∙ total-zero (choices (alone fr rest)))
+      ∙ add-zero (total (λ way. cond (isWay s way) (f (listRow s way)) 0) (choices (alone fr (r ∷ []))))
+      ∙ sym (total-wayRows s (alone fr (r ∷ [])) f)
     where
       count : Way → ℕ
       count way = cond (isWay s way) (cond (finds (listRow s way)) (f (listRow s way)) 0) 0
 
-      ours : (way : Way) (b : Bool) → (b ≡ true → finds (listRow s way) ≡ true) → cond b (cond (finds (listRow s way)) (f (listRow s way)) 0) 0 ≡ cond b (f (listRow s way)) 0
+      ours : (way : Way) (b : Bool) → (b ≡ true → finds (listRow s way) ≡ true)
+          → cond b (cond (finds (listRow s way)) (f (listRow s way)) 0) 0 ≡ cond b (f (listRow s way)) 0
       ours way true h = ap (λ b. cond b (f (listRow s way)) 0) (h refl)
       ours way false h = refl
 
@@ -194,19 +207,19 @@ module _ (s : Sheet) (g : Good s) (A : Tables) (many : length A ≡ s .n) (R : �
   -- they show r's values
   pub found-show : T (all (λ row. sameRow row (withColumns (s .listed) R r row)) (rowsFound s (meaning s B) R r))
   found-show =
-      subst T (sym (all-of (λ row. sameRow row (withColumns (s .listed) R r row)) (rowsFound s (meaning s B) R r) (wayRows s (set A R (r ∷ []))) found-same))
-      (all-make (λ row. sameRow row (withColumns (s .listed) R r row)) (wayRows s (set A R (r ∷ []))) (λ row i.
-      let a = row-way s (set A R (r ∷ [])) row i in
+      subst T (sym (all-of (λ row. sameRow row (withColumns (s .listed) R r row)) (rowsFound s (meaning s B) R r) (wayRows s (alone fr (r ∷ []))) found-same))
+      (all-make (λ row. sameRow row (withColumns (s .listed) R r row)) (wayRows s (alone fr (r ∷ []))) (λ row i.
+      let a = row-way s (alone fr (r ∷ [])) row i in
       ≡→same row (withColumns (s .listed) R r row)
       (a .3 ∙ sym (with-row s R r (a .0) (a .0) (λ l k. each (a .0) (a .1) l (eqb (l .table) R) refl)) ∙ ap (withColumns (s .listed) R r) (sym (a .3)))))
     where
-      each : (way : Way) → Takes way (set A R (r ∷ [])) → (l : Listed) (b : Bool) → eqb (l .table) R ≡ b
+      each : (way : Way) → Takes way (alone fr (r ∷ [])) → (l : Listed) (b : Bool) → eqb (l .table) R ≡ b
           → cond b (at r (l .column)) (at (rowIn way (l .table)) (l .column)) ≡ at (rowIn way (l .table)) (l .column)
       each way k l′ true e = ap (λ x. at x (l′ .column)) (sym (ap (rowIn way) (eqb→≡ (l′ .table) R (isT e)) ∙ takes-one way A R l r k))
       each way k l′ false e = refl
 
   -- with r′'s columns they are those of the ways through r′
-  module _ (r′ : Row) (tie : Tied s R r r′) (way : Way) (takes : Takes way (set A R (r ∷ []))) where
+  module _ (r′ : Row) (tie : Tied s R r r′) (way : Way) (takes : Takes way (alone fr (r ∷ []))) where
     abbrev way′ : Way
     way′ = set way R r′
 
@@ -234,12 +247,12 @@ module _ (s : Sheet) (g : Good s) (A : Tables) (many : length A ≡ s .n) (R : �
         (ap (λ b. cond b (at r′ (l .column)) (at (rowIn way R) (l .column))) (T→≡ (eqb R R) (eq→eqb {m = R} refl)))
         (λ t d. ap (λ b. cond b (at r′ (l .column)) (at (rowIn way t) (l .column))) (F→≡ (eqb t R) (λ q. d (eqb→≡ t R q)))) (l .table))
 
-  pub found-new : (r′ : Row) → Tied s R r r′ → Same (map (withColumns (s .listed) R r′) (rowsFound s (meaning s B) R r)) (wayRows s (set A R (r′ ∷ [])))
+  pub found-new : (r′ : Row) → Tied s R r r′ → Same (map (withColumns (s .listed) R r′) (rowsFound s (meaning s B) R r)) (wayRows s (alone fr (r′ ∷ [])))
   found-new r′ tie f =
       total-map f (withColumns (s .listed) R r′) (rowsFound s (meaning s B) R r)
       ∙ found-same (λ row. f (withColumns (s .listed) R r′ row))
-      ∙ total-wayRows s (set A R (r ∷ [])) (λ row. f (withColumns (s .listed) R r′ row))
+      ∙ total-wayRows s (alone fr (r ∷ [])) (λ row. f (withColumns (s .listed) R r′ row))
       ∙ total-ways (λ way. cond (isWay s way) (f (withColumns (s .listed) R r′ (listRow s way))) 0)
-      (λ way. cond (isWay s (set way R r′)) (f (listRow s (set way R r′))) 0) (set A R (r ∷ []))
+      (λ way. cond (isWay s (set way R r′)) (f (listRow s (set way R r′))) 0) (alone fr (r ∷ []))
       (λ way k. ap₂ (λ b row. cond b (f row) 0) (sym (same-way r′ tie way k)) (same-row r′ tie way k))
-      ∙ sym (total-wayRows s (set A R (r′ ∷ [])) f ∙ choices-swap (λ way. cond (isWay s way) (f (listRow s way)) 0) A R r r′ l)
+      ∙ sym (total-wayRows s (alone fr (r′ ∷ [])) f ∙ choices-swap (λ way. cond (isWay s way) (f (listRow s way)) 0) A R r r′ l)

@@ -7,3 +7,4 @@ pub mod Step
 pub mod First
 pub mod Second
 pub mod Third
+pub mod Shutout

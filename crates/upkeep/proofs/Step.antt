@@ -31,7 +31,7 @@ use Rattle.laws.proofs.Ways.{wayRows}
 use Rattle.laws.proofs.Meanings.{Met, Lawful, parents-get, lawful-set, meaning-same}
 use Rattle.laws.proofs.Changes.{made, by-kind}
 use Rattle.upkeep.proofs.Tied.{Tied, tied-get}
-use Rattle.upkeep.proofs.Replace.{having, Judges, rows-other, ways-of, ways-of-same, Moves, replaced, replaced-has, new-key, old-row}
+use Rattle.upkeep.proofs.Replace.{Frame, having, alone, Judges, rows-other, ways-of, ways-of-same, Moves, replaced, replaced-has, new-key, old-row}
 use Rattle.upkeep.proofs.Insert.{judges-in, judges-out, insert-moves, delete-moves}
 use Rattle.upkeep.proofs.Update.{judges-new, update-moves, update-show}
 
@@ -46,6 +46,9 @@ module _ (s : Sheet) (g : Good s) (B : Tables) (law : Lawful s B) (R : ℕ) (ins
   l : R < length B
   l = omega (arith, law .many)
 
+  abbrev frame : Rows → Frame s
+  frame rest = record { base = B; many = law .many; table = R; inside = inside; rest = rest }
+
   -- a row of no columns, or of another key, is not among base rows
   none-empty : (x : Row) → length x ≡ 0 → Mem x (rowsOf B R) → ⊥
   none-empty x e m = omega (arith, law .widths R inside x m, g .wide R inside, e)
@@ -53,7 +56,7 @@ module _ (s : Sheet) (g : Good s) (B : Tables) (law : Lawful s B) (R : ℕ) (ins
   -- B with the rows O before the others in R, its rows each as often as in B
   module _ (O rest : Rows) (same : Same (rowsOf B R) (O ++ rest)) where
     abbrev old : Tables
-    old = having B R rest O
+    old = having (frame rest) O
 
     pub old-same : (u : ℕ) → Same (rowsOf B u) (rowsOf old u)
     old-same = by-set [] (λ u rows. Same (rowsOf B u) rows) B R (O ++ rest) l same (λ u d f. refl)
@@ -62,22 +65,23 @@ module _ (s : Sheet) (g : Good s) (B : Tables) (law : Lawful s B) (R : ℕ) (ins
     old-once t i = once-same (rowsOf B t) (rowsOf old t) (old-same t) (law .keys t i)
 
     -- a change that takes O's rows and puts N's
-    pub step : (N : Rows) (kind : ℕ) (r r′ : Row) → changed B (made kind R r r′) ≡ having B R rest N → Judges s (qualifiedOf s old) (having B R rest N)
-        → Moves s g B (law .many) R inside rest O N (effect s (meaning s old) (made kind R r r′)) → T (agrees s (meaning s old) (made kind R r r′))
-        → Lawful s (having B R rest N) → ((y : Row) → Mem y O → y ≡ r) → (Mem r rest → ⊥) → ((y : Row) → Mem y N → y ≡ r′) → (Mem r′ rest → ⊥)
+    pub step : (N : Rows) (kind : ℕ) (r r′ : Row) → changed B (made kind R r r′) ≡ having (frame rest) N → Judges s (qualifiedOf s old) (having (frame rest) N)
+        → Moves s g (frame rest) O N (effect s (meaning s old) (made kind R r r′)) → T (agrees s (meaning s old) (made kind R r r′))
+        → Lawful s (having (frame rest) N) → ((y : Row) → Mem y O → y ≡ r) → (Mem r rest → ⊥) → ((y : Row) → Mem y N → y ≡ r′) → (Mem r′ rest → ⊥)
         → Done s B (made kind R r r′)
     step N kind r r′ is judges moves agreed lawful o o′ n n′ =
         let c = made kind R r r′ in
         record {
           agreed = subst (λ (m : Model). T (agrees s m c)) (sym same-model) agreed;
-          right = ap (λ m. after m R (effect s m c)) same-model ∙ replaced s g B (law .many) R inside rest O N judges (effect s (meaning s old) c) moves ∙ ap (meaning s) (sym is);
+          right = ap (λ m. after m R (effect s m c)) same-model ∙ replaced s g (frame rest) O N judges (effect s (meaning s old) c) moves
+              ∙ ap (meaning s) (sym is);
           law = subst (λ (b : Tables). Lawful s b) (sym is) lawful;
           taken = ap (λ m. length (effect s m c .listOut)) same-model
-              ∙ same-length (effect s (meaning s old) c .listOut) (wayRows s (set B R O)) (moves .list-out)
-              ∙ sym (ways-of-same s g B (law .many) R inside rest B old long old-same r ∙ ways-of s g B (law .many) R inside rest O r o o′);
+              ∙ same-length (effect s (meaning s old) c .listOut) (wayRows s (alone (frame rest) O)) (moves .list-out)
+              ∙ sym (ways-of-same s g (frame rest) B old long old-same r ∙ ways-of s g (frame rest) O r o o′);
           added = ap (λ m. length (effect s m c .listIn)) same-model
-              ∙ same-length (effect s (meaning s old) c .listIn) (wayRows s (set B R N)) (moves .list-in)
-              ∙ sym (ap (λ b. length (waysOf s b R r′)) is ∙ ways-of s g B (law .many) R inside rest N r′ n n′);
+              ∙ same-length (effect s (meaning s old) c .listIn) (wayRows s (alone (frame rest) N)) (moves .list-in)
+              ∙ sym (ap (λ b. length (waysOf s b R r′)) is ∙ ways-of s g (frame rest) N r′ n n′);
         }
       where
         long : length B ≡ length old
@@ -120,10 +124,11 @@ module _ (s : Sheet) (g : Good s) (B : Tables) (law : Lawful s B) (R : ℕ) (ins
         let E-law = subst (λ (b : Tables). Lawful s b) (sym rest-is) law in
         let E-par : (e : Edge) → Promised s R e → Met (set B R rest) (e .parent) (at r′ (e .column)) =
         (λ e p. subst (λ (b : Tables). Met b (e .parent) (at r′ (e .column))) (sym rest-is) (par e p)) in
-        let moves = insert-moves s g B (law .many) R inside rest r′ E-law new E-par in
-        step [] rest (λ f. refl) (r′ ∷ []) 1 r r′ refl (judges-in s g B (law .many) R inside rest r′ E-law new E-par) moves
-        (and-both (newKey (meaning s (set B R rest)) R r′) (hasRows (effect s (meaning s (set B R rest)) (made 1 R r r′) .listOut) (meaning s (set B R rest) .list))
-        (new-key s g B (law .many) R inside rest r′ new) (replaced-has s g B (law .many) R inside rest [] (r′ ∷ []) _ moves))
+        let moves = insert-moves s g (frame rest) r′ E-law new E-par in
+        step [] rest (λ f. refl) (r′ ∷ []) 1 r r′ refl (judges-in s g (frame rest) r′ E-law new E-par) moves
+        (and-both (newKey (meaning s (set B R rest)) R r′)
+        (hasRows (effect s (meaning s (set B R rest)) (made 1 R r r′) .listOut) (meaning s (set B R rest) .list))
+        (new-key s g (frame rest) r′ new) (replaced-has s g (frame rest) [] (r′ ∷ []) _ moves))
         inserted-lawful (λ y m. absurd m) (none-empty r none) (only r′) (key-not r′ rest new)
 
   -- a row that is there, and the others
@@ -160,17 +165,17 @@ module _ (s : Sheet) (g : Good s) (B : Tables) (law : Lawful s B) (R : ℕ) (ins
       par : (e : Edge) → Promised s R e → Met (set B R rest) (e .parent) (at r (e .column))
       par e p =
           subst (λ (rows : Rows). T (hasKey (at r (e .column)) rows))
-          (sym (rows-other s g B (law .many) R inside rest [] (e .parent) (λ d. parent-other s g e (p .edge) (d ∙ sym (p .child)))))
+          (sym (rows-other s g (frame rest) [] (e .parent) (λ d. parent-other s g e (p .edge) (d ∙ sym (p .child)))))
           (law .parents R inside r there e p)
 
       pub delete-done : Done s B (made 2 R r r′)
       unfolding agrees effect changed
       delete-done =
-          let m = meaning s (having B R rest (r ∷ [])) in
-          let moves = delete-moves s g B (law .many) R inside rest r deleted-lawful gone par in
-          step (r ∷ []) rest (same-take r (rowsOf B R) has) [] 2 r r′ refl (judges-out s g B (law .many) R inside rest r deleted-lawful gone par) moves
+          let m = meaning s (having (frame rest) (r ∷ [])) in
+          let moves = delete-moves s g (frame rest) r deleted-lawful gone par in
+          step (r ∷ []) rest (same-take r (rowsOf B R) has) [] 2 r r′ refl (judges-out s g (frame rest) r deleted-lawful gone par) moves
           (and-both (oldRow s m R r) (hasRows (effect s m (made 2 R r r′) .listOut) (m .list))
-          (old-row s g B (law .many) R inside rest r gone) (replaced-has s g B (law .many) R inside rest (r ∷ []) [] _ moves))
+          (old-row s g (frame rest) r gone) (replaced-has s g (frame rest) (r ∷ []) [] _ moves))
           deleted-lawful (only r) (key-not r rest gone) (λ y m. absurd m) (λ m. none-empty r′ none (rest-in r′ m))
 
     -- an update: another row with the same key and tied columns
@@ -198,16 +203,16 @@ module _ (s : Sheet) (g : Good s) (B : Tables) (law : Lawful s B) (R : ℕ) (ins
       pub update-done : Done s B (made 3 R r r′)
       unfolding agrees effect changed
       update-done =
-          let m = meaning s (having B R rest (r ∷ [])) in
+          let m = meaning s (having (frame rest) (r ∷ [])) in
           let same = same-take r (rowsOf B R) has in
           let once = old-once (r ∷ []) rest same in
-          let moves = update-moves s g B (law .many) R inside rest r r′ tie once gone in
-          step (r ∷ []) rest same (r′ ∷ []) 3 r r′ refl (judges-new s g B (law .many) R inside rest r r′ tie) moves
-          (together (oldRow s m R r) (foundShow s m R r ∷ hasRows (effect s m (made 3 R r r′) .listOut) (m .list) ∷ []) (
-            old-row s g B (law .many) R inside rest r gone,
+          let moves = update-moves s g (frame rest) r r′ tie once gone in
+          step (r ∷ []) rest same (r′ ∷ []) 3 r r′ refl (judges-new s g (frame rest) r r′ tie) moves
+          (together (oldRow s m R r ∷ foundShow s m R r ∷ hasRows (effect s m (made 3 R r r′) .listOut) (m .list) ∷ []) (
+            old-row s g (frame rest) r gone,
             (
-              update-show s g B (law .many) R inside rest r r′ tie once gone,
-              (replaced-has s g B (law .many) R inside rest (r ∷ []) (r′ ∷ []) _ moves, tt),
+              update-show s g (frame rest) r r′ tie once gone,
+              (replaced-has s g (frame rest) (r ∷ []) (r′ ∷ []) _ moves, tt),
             ),
           ))
           updated-lawful (only r) (key-not r rest gone) (only r′) (key-not r′ rest gone′)
@@ -222,15 +227,15 @@ unfolding lawfulChange tiedStay
 done s g B law c h =
     by-kind s (λ c. T (lawfulChange s B c) → Done s B c)
     (λ t r r′ l e e′ h.
-    let w = apart (goodChange s (made 1 t r r′)) ((not (hasKey (key r′) (rowsOf B t)) && hasParents s B t r′) ∷ []) h in
-    let k = apart (not (hasKey (key r′) (rowsOf B t))) (hasParents s B t r′ ∷ []) (w .1 .0) in
+    let w = apart (goodChange s (made 1 t r r′) ∷ (not (hasKey (key r′) (rowsOf B t)) && hasParents s B t r′) ∷ []) h in
+    let k = apart (not (hasKey (key r′) (rowsOf B t)) ∷ hasParents s B t r′ ∷ []) (w .1 .0) in
     insert-done s g B law t l r r′ e e′ (not→F (hasKey (key r′) (rowsOf B t)) (k .0)) (parents-get s B t r′ (k .1 .0)))
     (λ t r r′ l e e′ h.
-    let w = apart (goodChange s (made 2 t r r′)) ((hasRow r (rowsOf B t) && not (hasPromisedChild s B t (key r))) ∷ []) h in
-    let k = apart (hasRow r (rowsOf B t)) (not (hasPromisedChild s B t (key r)) ∷ []) (w .1 .0) in
+    let w = apart (goodChange s (made 2 t r r′) ∷ (hasRow r (rowsOf B t) && not (hasPromisedChild s B t (key r))) ∷ []) h in
+    let k = apart (hasRow r (rowsOf B t) ∷ not (hasPromisedChild s B t (key r)) ∷ []) (w .1 .0) in
     delete-done s g B law t l r (k .0) r′ e′ (not→F (hasPromisedChild s B t (key r)) (k .1 .0)))
     (λ t r r′ l e e′ q h.
-    let w = apart (goodChange s (made 3 t r r′)) ((hasRow r (rowsOf B t) && sameTied s t r r′) ∷ []) h in
-    let k = apart (hasRow r (rowsOf B t)) (sameTied s t r r′ ∷ []) (w .1 .0) in
+    let w = apart (goodChange s (made 3 t r r′) ∷ (hasRow r (rowsOf B t) && sameTied s t r r′) ∷ []) h in
+    let k = apart (hasRow r (rowsOf B t) ∷ sameTied s t r r′ ∷ []) (w .1 .0) in
     update-done s g B law t l r (k .0) r′ e′ (tied-get s g t r r′ q (k .1 .0)))
     c (lawful-good s B c h) h

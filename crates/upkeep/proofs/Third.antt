@@ -44,7 +44,7 @@ lawful-tied s B c h =
     c (lawful-good s B c h) h
 
 -- a number is 0 or a refusal
-zero-or : (P : Type 0) (number : ℕ) → (number ≡ 0 → P) → (Refused number → P) → P
+pub zero-or : (P : Type 0) (number : ℕ) → (number ≡ 0 → P) → (Refused number → P) → P
 zero-or P number h k = ⊎-elim (λ e. h (eqb→≡ number 0 e)) (λ d. k (λ e. d (eq→eqb e))) (decided (eqb number 0))
 
 module _ (sheet : Words) (p : Passed (sheetTests sheet)) where
@@ -126,7 +126,8 @@ module _ (sheet : Words) (p : Passed (sheetTests sheet)) where
       unfolding baseAfter
       next =
           zero-or (Holds s (baseAfter sheet B ws c) (change sheet ws c .words)) number
-          (λ e. subst (λ (b : Tables). Holds s b (change sheet ws c .words)) (sym (cond-true (eqb number 0) (changed B c) B (eq→eqb e))) (new-holds (lawful-if e) e))
+          (λ e. subst (λ (b : Tables). Holds s b (change sheet ws c .words)) (sym (cond-true (eqb number 0) (changed B c) B (eq→eqb e)))
+          (new-holds (lawful-if e) e))
           (λ d. subst (λ (b : Tables). Holds s b (change sheet ws c .words)) (sym (cond-false (eqb number 0) (changed B c) B (λ h. d (eqb→≡ number 0 h))))
           (subst (λ (w : Words). Holds s B w) (sym (ap (λ o. o .words) (change-refused sheet ws c d))) holds))
 

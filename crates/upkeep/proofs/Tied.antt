@@ -27,7 +27,8 @@ tied-get s g R r r′ e h =
       keys = e;
       conditions = λ d m q. column (d .column) (subst (λ (t : ℕ). d .column < width s t) q (g .condition-column d m))
           (or-inl (inCondition s R (d .column)) (isChildColumn s R (d .column))
-          (any-make (λ c. eqb (c .column) (d .column)) (conditionsOn s R) d (select-mem (λ d. eqb (d .table) R) (s .conditions) d m (eq→eqb q)) (eq→eqb {m = d .column} refl)));
+          (any-make (λ c. eqb (c .column) (d .column)) (conditionsOn s R) d (select-mem (λ d. eqb (d .table) R) (s .conditions) d m (eq→eqb q))
+          (eq→eqb {m = d .column} refl)));
       children = λ e m q. column (e .column) (subst (λ (t : ℕ). e .column < width s t) q (g .column-in e m))
           (or-inr (inCondition s R (e .column)) (isChildColumn s R (e .column))
           (any-make (λ c. eqb (c .column) (e .column)) (edgesFrom s R) e (select-mem (leaves R) (s .edges) e m (eq→eqb q)) (eq→eqb {m = e .column} refl)));
@@ -36,10 +37,8 @@ tied-get s g R r r′ e h =
     column : (c : ℕ) → c < width s R → T (tied s R c) → at r c ≡ at r′ c
     column c l t =
         ⊎-elim (λ n. absurd (not→F (tied s R c) n t)) (λ q. eqb→≡ (at r c) (at r′ c) q)
-        (or-cases (not (tied s R c)) (eqb (at r c) (at r′ c)) (all-get (λ c. not (tied s R c) || eqb (at r c) (at r′ c)) (upTo (width s R)) h c (mem-upTo (width s R) c l)))
-
-pub tied-self : (s : Sheet) (R : ℕ) (r : Row) → Tied s R r r
-tied-self s R r = record { keys = refl; conditions = λ d m q. refl; children = λ e m q. refl }
+        (or-cases (not (tied s R c)) (eqb (at r c) (at r′ c))
+        (all-get (λ c. not (tied s R c) || eqb (at r c) (at r′ c)) (upTo (width s R)) h c (mem-upTo (width s R) c l)))
 
 pub tied-qualified : (s : Sheet) (R : ℕ) (r r′ : Row) → Tied s R r r′ → (F : ℕ → Rows) → qualified s F R r ≡ qualified s F R r′
 unfolding qualified meets

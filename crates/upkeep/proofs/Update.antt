@@ -7,7 +7,6 @@ use mathlib.Core.Bool.{Bool, true, false, cond, not, _||_}
 use mathlib.Core.List.{[], _∷_, map}
 use mathlib.Core.Logic.{inl, ⊎-elim}
 use lib.Dec.{T, eqb}
-use lib.ListN.{length, set}
 use Rattle.lists.specs.Lists.{at, all, select}
 use Rattle.lists.specs.Totals.{Same}
 use Rattle.lists.proofs.Truth.{select-same, decided, or-inl, or-inr}
@@ -22,37 +21,45 @@ use Rattle.laws.proofs.Qualified.{qualified-same, qualifiedOf}
 use Rattle.laws.proofs.Ways.{wayRows}
 use Rattle.upkeep.proofs.Tied.{Tied, tied-qualified}
 use Rattle.upkeep.proofs.ByKey.{found-same, found-show, found-new}
-use Rattle.upkeep.proofs.Replace.{having, Judges, side-rows-one, side-rows-none, rows-here, rows-other, judges-self, none-unqualified, through-is, Moves, by-qualified}
+use Rattle.upkeep.proofs.Replace.{Frame, having, alone, Judges, side-rows-one, side-rows-none, rows-here, rows-alike, judges-self, none-unqualified, through-is, Moves, by-qualified}
 
 -- a row for another with its key
 key-swap : (b : Bool) (k : ℕ) (r r′ : Row) (rows : Rows) → key r ≡ key r′ → hasKey k (cond b (r ∷ rows) rows) ≡ hasKey k (cond b (r′ ∷ rows) rows)
 key-swap true k r r′ rows e = ap (λ x. eqb k x || hasKey k rows) e
 key-swap false k r r′ rows e = refl
 
-module _ (s : Sheet) (g : Good s) (A : Tables) (many : length A ≡ s .n) (R : ℕ) (inside : R < s .n) (rest : Rows) (r r′ : Row) (tie : Tied s R r r′) where
+module _ (s : Sheet) (g : Good s) (fr : Frame s) (r r′ : Row) (tie : Tied s (fr .table) r r′) where
+  abbrev A : Tables
+  A = fr .base
+
+  abbrev R : ℕ
+  R = fr .table
+
+  abbrev rest : Rows
+  rest = fr .rest
+
   abbrev X : Row → Tables
-  X x = having A R rest (x ∷ [])
+  X x = having fr (x ∷ [])
 
   same-key : (k p x : ℕ) → hasKey x (qualifiedIn s (X r) k p) ≡ hasKey x (qualifiedIn s (X r′) k p)
   same-key zero p x = refl
   same-key (suc k) p x =
-      ap (hasKey x) (select-same old new (rowsOf (X r) p) (λ y m.
+      ap (hasKey x) (select-same (qualified s (qualifiedIn s (X r) k) p) test (rowsOf (X r) p) (λ y m.
       qualified-same s (qualifiedIn s (X r) k) (qualifiedIn s (X r′) k) p y (λ e q. same-key k (e .parent) (at y (e .column)))))
-      ∙ here-or (λ u. u ≡ p → hasKey x (select new (rowsOf (X r) u)) ≡ hasKey x (select new (rowsOf (X r′) u))) R p
-      (λ e. ap (λ rows. hasKey x (select new rows)) (rows-here s g A many R inside rest (r ∷ []))
-      ∙ ap (λ b. hasKey x (cond b (r ∷ select new rest) (select new rest))) (tied e)
-      ∙ key-swap (new r′) x r r′ (select new rest) (tie .keys)
-      ∙ ap (λ rows. hasKey x (select new rows)) (sym (rows-here s g A many R inside rest (r′ ∷ []))))
-      (λ d e. ap (λ rows. hasKey x (select new rows)) (rows-other s g A many R inside rest (r ∷ []) p d ∙ sym (rows-other s g A many R inside rest (r′ ∷ []) p d)))
-      refl
+      ∙ here-or (λ u. u ≡ p → has (rowsOf (X r) u) ≡ has (rowsOf (X r′) u)) R p
+      (λ e. ap has (rows-here s g fr (r ∷ []))
+      ∙ ap (λ b. hasKey x (cond b (r ∷ select test rest) (select test rest))) (tied e)
+      ∙ key-swap (test r′) x r r′ (select test rest) (tie .keys)
+      ∙ ap has (sym (rows-here s g fr (r′ ∷ []))))
+      (λ d e. ap has (rows-alike s g fr (r ∷ []) (r′ ∷ []) p d)) refl
     where
-      old : Row → Bool
-      old = qualified s (qualifiedIn s (X r) k) p
+      test : Row → Bool
+      test = qualified s (qualifiedIn s (X r′) k) p
 
-      new : Row → Bool
-      new = qualified s (qualifiedIn s (X r′) k) p
+      has : Rows → Bool
+      has rows = hasKey x (select test rows)
 
-      tied : R ≡ p → new r ≡ new r′
+      tied : R ≡ p → test r ≡ test r′
       tied e =
           subst (λ (t : ℕ). qualified s (qualifiedIn s (X r′) k) t r ≡ qualified s (qualifiedIn s (X r′) k) t r′) e
           (tied-qualified s R r r′ tie (qualifiedIn s (X r′) k))
@@ -67,29 +74,29 @@ module _ (s : Sheet) (g : Good s) (A : Tables) (many : length A ≡ s .n) (R : �
     F : ℕ → Rows
     F = qualifiedOf s (X r)
 
-    pub update-moves : Moves s g A many R inside rest (r ∷ []) (r′ ∷ []) (cond (qualifies s m R r) (updateEffect s m R r r′) noEffect)
+    pub update-moves : Moves s g fr (r ∷ []) (r′ ∷ []) (cond (qualifies s m R r) (updateEffect s m R r r′) noEffect)
     unfolding updateEffect F
     update-moves =
-        by-qualified s g A many R inside rest (r ∷ []) (Moves s g A many R inside rest (r ∷ []) (r′ ∷ [])) r (updateEffect s m R r r′)
+        by-qualified s g fr (r ∷ []) (Moves s g fr (r ∷ []) (r′ ∷ [])) r (updateEffect s m R r r′)
         (λ q. record {
           side-out = side-rows-one s F R r q;
           side-in = side-rows-one s F R r′ (to q);
-          list-out = by-can (canTake s R) (rowsThrough s m R r) (rowsFound s m R r) (wayRows s (set A R (r ∷ [])))
-              (λ can. through-is s g A many R inside rest (r ∷ []) (r ∷ []) own r (inl refl) q can)
-              (λ cannot. found-same s g A many R inside rest r once new cannot);
-          list-in = by-can (canTake s R) (rowsThrough s m R r′) (map (withColumns (s .listed) R r′) (rowsFound s m R r)) (wayRows s (set A R (r′ ∷ [])))
-              (λ can. through-is s g A many R inside rest (r ∷ []) (r′ ∷ []) judges-new r′ (inl refl) (to q) can)
-              (λ cannot. found-new s g A many R inside rest r once new cannot r′ tie);
+          list-out = by-can (canTake s R) (rowsThrough s m R r) (rowsFound s m R r) (wayRows s (alone fr (r ∷ [])))
+              (λ can. through-is s g fr (r ∷ []) (r ∷ []) own r (inl refl) q can)
+              (λ cannot. found-same s g fr r once new cannot);
+          list-in = by-can (canTake s R) (rowsThrough s m R r′) (map (withColumns (s .listed) R r′) (rowsFound s m R r)) (wayRows s (alone fr (r′ ∷ [])))
+              (λ can. through-is s g fr (r ∷ []) (r′ ∷ []) judges-new r′ (inl refl) (to q) can)
+              (λ cannot. found-new s g fr r once new cannot r′ tie);
         })
         (λ q. record {
           side-out = side-rows-none s F R r q;
           side-in = side-rows-none s F R r′ (λ h. q (from-new h));
-          list-out = none-unqualified s g A many R inside rest F (r ∷ []) own r (inl refl) q;
-          list-in = none-unqualified s g A many R inside rest F (r′ ∷ []) judges-new r′ (inl refl) (λ h. q (from-new h));
+          list-out = none-unqualified s g fr F (r ∷ []) own r (inl refl) q;
+          list-in = none-unqualified s g fr F (r′ ∷ []) judges-new r′ (inl refl) (λ h. q (from-new h));
         })
       where
         own : Judges s F (X r)
-        own = judges-self s g A many R inside rest (r ∷ [])
+        own = judges-self s g fr (r ∷ [])
 
         to : T (qualified s F R r) → T (qualified s F R r′)
         to q = subst T (tied-qualified s R r r′ tie F) q
@@ -108,4 +115,4 @@ module _ (s : Sheet) (g : Good s) (A : Tables) (many : length A ≡ s .n) (R : �
         let a = not (qualifies s m R r) in
         let show = all (λ row. sameRow row (withColumns (s .listed) R r row)) (rowsFound s m R r) in
         ⊎-elim (λ k. or-inl (a || canTake s R) show (or-inr a (canTake s R) k))
-        (λ k. or-inr (a || canTake s R) show (found-show s g A many R inside rest r once new k)) (decided (canTake s R))
+        (λ k. or-inr (a || canTake s R) show (found-show s g fr r once new k)) (decided (canTake s R))
