@@ -10,6 +10,10 @@ use borrow.Author.Tests.{eqb-true}
 use Rattle.lists.specs.Lists.{Words, at, all, select, upTo}
 use Rattle.lists.specs.Loops.{every}
 use Rattle.lists.proofs.Loops.{and-true}
+use Rattle.lists.proofs.Truth.{Mem, isT, T→≡, mem-select, select-mem, mem-getD, mem-upTo, upTo-mem}
+use Rattle.meaning.specs.Plan.{root}
+use mathlib.Core.List.{List, [], _∷_}
+use mathlib.Core.Logic.{inl, inr}
 use Rattle.meaning.specs.Answers.{unless}
 use Rattle.meaning.specs.Sheet.{Sheet, sheetOf, edgesInto, isRoot, reached, goodCounts, goodWords, goodTree, sheetRefusal}
 use Rattle.words.specs.Counted.{counted}
@@ -17,7 +21,7 @@ use Rattle.words.specs.Rules.{Rules}
 use Rattle.words.proofs.Numbers.{all-upTo, length-upTo}
 use Rattle.words.proofs.Words.{n-is}
 use Rattle.words.proofs.Facts.{counts-facts, rules}
-use Rattle.sheet.specs.Tree.{oneInto, rootNo, reachedNo, Joined}
+use Rattle.sheet.specs.Tree.{oneInto, rootNo, reachedNo, GoodSheet}
 use Rattle.sheet.specs.Verdicts.{verdictOf, numberOf}
 use Rattle.sheet.specs.declared.Verdict.the-variants.{Good, Refused}
 use Rattle.sheet.proofs.Into.{joined}
@@ -104,9 +108,36 @@ module _ (ws : Words) where
   pub good-rules : sheetRefusal ws ≡ 0 → Rules ws
   good-rules h = let t = good-tests h in rules ws (counts-facts ws (t .0)) (t .1 .0)
 
-  pub good-joined : sheetRefusal ws ≡ 0 → Joined ws
-  good-joined h =
-      let r = good-rules h in
-      let a = and-true _ _ (sym (tree-are ws r) ∙ good-tests h .1 .1) in
+  -- what the tree's test says: one root, and at most one edge into each table
+  pub good-roots : sheetRefusal ws ≡ 0 → (length (select (isRoot (sheetOf ws)) (upTo (sheetOf ws .n))) ≡ 1) × (every (oneInto ws) (at ws 0) ≡ true)
+  unfolding rootNo
+  good-roots h =
+      let a = and-true _ _ (sym (tree-are ws (good-rules h)) ∙ good-tests h .1 .1) in
       let b = and-true (eqb (counted (rootNo ws) (at ws 0)) 1) (every (oneInto ws) (at ws 0)) (a .0) in
-      joined ws r (b .1)
+      (length-upTo (isRoot (sheetOf ws)) (sheetOf ws .n) ∙ ap (counted (isRoot (sheetOf ws))) (n-is ws) ∙ eqb-true _ _ (b .0), b .1)
+
+  -- a good sheet, as facts
+  pub good-sheet : sheetRefusal ws ≡ 0 → GoodSheet ws
+  unfolding root
+  good-sheet h =
+      let one = good-roots h .0 in
+      let x = mem-select (isRoot s) (upTo (s .n)) (at roots 0) (mem-getD 0 roots 0 (omega arith)) in
+      record {
+        joined = joined ws (good-rules h) (good-roots h .1);
+        root-in = omega (arith, upTo-mem (s .n) (at roots 0) (x .0), n-is ws);
+        root-is = T→≡ (isRoot s (at roots 0)) (x .1);
+        one-root = λ t l e. only roots one t (select-mem (isRoot s) (upTo (s .n)) t (mem-upTo (s .n) t (omega (arith, n-is ws))) (isT e));
+        not-refused = h;
+      }
+    where
+      s : Sheet
+      s = sheetOf ws
+
+      roots : List ℕ
+      roots = select (isRoot s) (upTo (s .n))
+
+      only : (xs : List ℕ) → length xs ≡ 1 → (t : ℕ) → Mem t xs → t ≡ at xs 0
+      only [] q t m = absurd m
+      only (x ∷ []) q t (inl e) = e
+      only (x ∷ []) q t (inr m) = absurd m
+      only (x ∷ (y ∷ xs)) q t m = absurd (omega arith)

@@ -1,11 +1,13 @@
 -- The tests of refusal 3 by number: which edges go into a table, which table is a root, which is reached.
 -- Assumes nothing.
 use Prim.Native.Nat.{ℕ, _<_, _≤_}
-use mathlib.Core.Bool.{Bool}
+use mathlib.Core.Path.{_≡_}
+use mathlib.Core.Bool.{Bool, true}
 use lib.Dec.{leb}
 use lib.ListN.{length}
 use Rattle.lists.specs.Lists.{Words, at}
-use Rattle.meaning.specs.Sheet.{sheetOf, goesInto, edgesInto, isRoot, reached}
+use Rattle.meaning.specs.Sheet.{sheetOf, goesInto, edgesInto, isRoot, reached, sheetRefusal}
+use Rattle.meaning.specs.Plan.{root}
 use Rattle.words.specs.Numbered.{edgeNo}
 use Rattle.words.specs.Rules.{Rules}
 
@@ -29,3 +31,11 @@ reachedNo ws k t = reached (sheetOf ws) k t
 pub record Joined (ws : Words) : Type 0 where
   pub rules : Rules ws
   pub one-into : (t : ℕ) → t < at ws 0 → length (edgesInto (sheetOf ws) t) ≤ 1
+
+-- a sheet that is not refused: besides, one table is the root, and each that has no edge into it is that one
+pub record GoodSheet (ws : Words) : Type 0 where
+  pub joined : Joined ws
+  pub root-in : root (sheetOf ws) < at ws 0
+  pub root-is : isRoot (sheetOf ws) (root (sheetOf ws)) ≡ true
+  pub one-root : (t : ℕ) → t < at ws 0 → isRoot (sheetOf ws) t ≡ true → t ≡ root (sheetOf ws)
+  pub not-refused : sheetRefusal ws ≡ 0

@@ -1,0 +1,101 @@
+-- Dep+ of a table, walked from its far end: a table is in it exactly if a promised edge goes into it from the table itself or from one in its Dep+.
+-- Assumes nothing.
+use Prim.Native.Nat.{ℕ, zero, suc}
+use mathlib.Core.Path.{_≡_, refl, sym, subst, _∙_}
+use mathlib.Core.List.{List, [], _∷_, _++_, map}
+use mathlib.Core.Logic.{_⊎_, inl, inr}
+use lib.Dec.{T}
+use Rattle.lists.specs.Lists.{flat}
+use Rattle.lists.proofs.Truth.{Mem, mem-append, mem-map, map-mem, mem-select, select-mem, eq→eqb, eqb→≡}
+use Rattle.meaning.specs.Sheet.{Edge, Sheet, leaves, edgesFrom}
+use Rattle.meaning.specs.Plan.{isPromised, promised, dep, depPlusIn}
+
+-- membership in lists laid end to end
+module _ {A : Type 0} where
+  pub append-left : (xs ys : List A) (x : A) → Mem x xs → Mem x (xs ++ ys)
+  append-left [] ys x m = absurd m
+  append-left (y ∷ xs) ys x (inl e) = inl e
+  append-left (y ∷ xs) ys x (inr m) = inr (append-left xs ys x m)
+
+  pub append-right : (xs ys : List A) (x : A) → Mem x ys → Mem x (xs ++ ys)
+  append-right [] ys x m = m
+  append-right (y ∷ xs) ys x m = inr (append-right xs ys x m)
+
+module _ {A B : Type 0} (f : A → List B) where
+  pub flat-mem : (xs : List A) (y : B) → Mem y (flat (map f xs)) → (x : A) × Mem x xs × Mem y (f x)
+  flat-mem [] y m = absurd m
+  flat-mem (x ∷ xs) y m = go (mem-append (f x) (flat (map f xs)) y m) (λ m. flat-mem xs y m)
+    where
+      go : Mem y (f x) ⊎ Mem y (flat (map f xs)) → (Mem y (flat (map f xs)) → (z : A) × Mem z xs × Mem y (f z)) → (z : A) × Mem z (x ∷ xs) × Mem y (f z)
+      go (inl k) ih = (x, inl refl, k)
+      go (inr k) ih = (ih k .0, inr (ih k .1), ih k .2)
+
+  pub mem-flat : (xs : List A) (x : A) (y : B) → Mem x xs → Mem y (f x) → Mem y (flat (map f xs))
+  mem-flat [] x y m k = absurd m
+  mem-flat (z ∷ xs) x y (inl e) k = append-left (f z) (flat (map f xs)) y (subst (λ (w : A). Mem y (f w)) e k)
+  mem-flat (z ∷ xs) x y (inr m) k = append-right (f z) (flat (map f xs)) y (mem-flat xs x y m k)
+
+module _ (s : Sheet) where
+  -- a promised edge from t to p
+  pub record Promised (t p : ℕ) : Type 0 where
+    pub edge : Edge
+    pub there : Mem edge (s .edges)
+    pub promised : T (isPromised edge)
+    pub leaves : edge .child ≡ t
+    pub goes : edge .parent ≡ p
+
+  pub dep-edge : (t p : ℕ) → Mem p (dep s t) → Promised t p
+  unfolding dep
+  dep-edge t p m =
+      let x = map-mem (λ e. e .parent) (promised s t) p m in
+      let a = mem-select isPromised (edgesFrom s t) (x .0) (x .1) in
+      let b = mem-select (leaves t) (s .edges) (x .0) (a .0) in
+      record { edge = x .0; there = b .0; promised = a .1; leaves = eqb→≡ _ _ (b .1); goes = sym (x .2) }
+
+  pub edge-dep : (e : Edge) → Mem e (s .edges) → T (isPromised e) → Mem (e .parent) (dep s (e .child))
+  unfolding dep
+  edge-dep e m h =
+      mem-map (λ e. e .parent) (promised s (e .child)) e
+      (select-mem isPromised (edgesFrom s (e .child)) e (select-mem (leaves (e .child)) (s .edges) e m (eq→eqb {m = e .child} refl)) h)
+
+  -- the first table on the path
+  first-step : (k t u : ℕ) → Mem u (depPlusIn s (suc k) t) → (p : ℕ) × Mem p (dep s t) × ((u ≡ p) ⊎ Mem u (depPlusIn s k p))
+  first-step k t u m = flat-mem (λ p. p ∷ depPlusIn s k p) (dep s t) u m
+
+  step-first : (k t u p : ℕ) → Mem p (dep s t) → (u ≡ p) ⊎ Mem u (depPlusIn s k p) → Mem u (depPlusIn s (suc k) t)
+  step-first k t u p m h = mem-flat (λ p. p ∷ depPlusIn s k p) (dep s t) p u m h
+
+  -- the last edge on the path
+  pub record LastEdge (k t u : ℕ) : Type 0 where
+    pub edge : Edge
+    pub there : Mem edge (s .edges)
+    pub promised : T (isPromised edge)
+    pub goes : edge .parent ≡ u
+    pub from : (edge .child ≡ t) ⊎ Mem (edge .child) (depPlusIn s k t)
+
+  pub last-edge : (k t u : ℕ) → Mem u (depPlusIn s (suc k) t) → LastEdge k t u
+  last-edge zero t u m = go (first-step zero t u m)
+    where
+      go : (p : ℕ) × Mem p (dep s t) × ((u ≡ p) ⊎ Mem u (depPlusIn s zero p)) → LastEdge zero t u
+      go (p, d, inl e) = let x = dep-edge t p d in record { edge = x .edge; there = x .there; promised = x .promised; goes = x .goes ∙ sym e; from = inl (x .leaves) }
+      go (p, d, inr k) = absurd k
+  last-edge (suc k) t u m = go (first-step (suc k) t u m) (λ p q. last-edge k p u q)
+    where
+      go : (p : ℕ) × Mem p (dep s t) × ((u ≡ p) ⊎ Mem u (depPlusIn s (suc k) p)) → ((p : ℕ) → Mem u (depPlusIn s (suc k) p) → LastEdge k p u) → LastEdge (suc k) t u
+      go (p, d, inl e) ih = let x = dep-edge t p d in record { edge = x .edge; there = x .there; promised = x .promised; goes = x .goes ∙ sym e; from = inl (x .leaves) }
+      go (p, d, inr m) ih =
+          let x = ih p m in
+          record { edge = x .edge; there = x .there; promised = x .promised; goes = x .goes; from = inr (step-first k t (x .edge .child) p d (x .from)) }
+
+  pub add-edge : (k t : ℕ) (e : Edge) → Mem e (s .edges) → T (isPromised e) → (e .child ≡ t) ⊎ Mem (e .child) (depPlusIn s k t) → Mem (e .parent) (depPlusIn s (suc k) t)
+  add-edge zero t e m h from = go from
+    where
+      go : (e .child ≡ t) ⊎ Mem (e .child) (depPlusIn s zero t) → Mem (e .parent) (depPlusIn s 1 t)
+      go (inl q) = step-first zero t (e .parent) (e .parent) (subst (λ (c : ℕ). Mem (e .parent) (dep s c)) q (edge-dep e m h)) (inl refl)
+      go (inr q) = absurd q
+  add-edge (suc k) t e m h from = go from (λ p r. add-edge k p e m h r)
+    where
+      go : (e .child ≡ t) ⊎ Mem (e .child) (depPlusIn s (suc k) t)
+          → ((p : ℕ) → (e .child ≡ p) ⊎ Mem (e .child) (depPlusIn s k p) → Mem (e .parent) (depPlusIn s (suc k) p)) → Mem (e .parent) (depPlusIn s (suc (suc k)) t)
+      go (inl q) ih = step-first (suc k) t (e .parent) (e .parent) (subst (λ (c : ℕ). Mem (e .parent) (dep s c)) q (edge-dep e m h)) (inl refl)
+      go (inr q) ih = let x = first-step k t (e .child) q in step-first (suc k) t (e .parent) (x .0) (x .1) (inr (ih (x .0) (x .2)))

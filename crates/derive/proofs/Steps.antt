@@ -1,0 +1,258 @@
+-- The ways through the walks of Dep+ and Need, said of words and numbers.
+-- Assumes nothing.
+use Prim.Native.Nat.{ℕ, zero, suc, _+_, _-_, _<_, _≤_}
+use mathlib.Core.Path.{_≡_, refl, sym, ap, ap₂, subst, _∙_}
+use mathlib.Core.Bool.{Bool, true, false, cond, not, _&&_, _||_, Bool·not-not}
+use mathlib.Core.List.{List, [], _∷_}
+use mathlib.Core.Logic.{_⊎_, inl, inr}
+use native.Mathlib.Numerals.{sub-one}
+use native.Mathlib.Omega.{arith}
+use lib.Dec.{T, eqb, ltb}
+use lib.ListN.{length}
+use borrow.Author.Tests.{eqb-true, eq-eqb, ne-eqb, lt-ltb, ltb-true}
+use Rattle.lists.specs.Lists.{Words, at, all, any, select, member, upTo}
+use Rattle.lists.specs.Loops.{every, some, first}
+use Rattle.lists.proofs.Loops.{and-true}
+use Rattle.lists.proofs.Truth.{Mem, isT, T→≡, F→≡, same-test, mem-map, mem-upTo, select-mem, mem-select, upTo-mem, member→Mem, Mem→member, eq→eqb, eqb→≡, and-fst, and-snd, and-both}
+use Rattle.meaning.specs.Sheet.{Edge, Sheet, sheetOf, goesInto, leaves, edgesInto, isRoot}
+use Rattle.meaning.specs.Plan.{root, edgeInto, others, isPromised, depPlus, depPlusIn, isListed, names, need, needIn, kept, isShown}
+use Rattle.words.specs.Numbered.{edgeNo, listingNo}
+use Rattle.words.specs.Tests.{listingNames}
+use Rattle.words.proofs.Numbers.{any-up, all-upTo, any-upTo, found, not-found, first-passes}
+use Rattle.words.proofs.Words.{n-is, edges-are, listed-are}
+use Rattle.sheet.specs.Tree.{goesNo, Joined, GoodSheet}
+use Rattle.sheet.proofs.Into.{into-none, into-first, into-only}
+use Rattle.derive.specs.Derived.{depNo, needNo, restsOn, neededBy, keptNo, leavesBy, shownNo}
+use Rattle.derive.proofs.Paths.{LastEdge, last-edge, add-edge}
+
+-- a test that is false because it cannot be passed
+fails : (b : Bool) → (T b → ⊥) → false ≡ b
+fails b h = sym (F→≡ b h)
+
+-- one further, where it is not there yet
+pub past : (t r : ℕ) → t ≤ r → (t ≡ r → ⊥) → t + 1 ≤ r
+past t r h d = omega arith
+
+-- Dep+ as a test and as membership
+dep-mem : (ws : Words) (k t u : ℕ) → T (depNo ws k t u) → Mem u (depPlusIn (sheetOf ws) k t)
+unfolding depNo
+dep-mem ws k t u h = member→Mem u (depPlusIn (sheetOf ws) k t) h
+
+mem-dep : (ws : Words) (k t u : ℕ) → Mem u (depPlusIn (sheetOf ws) k t) → T (depNo ws k t u)
+unfolding depNo
+mem-dep ws k t u h = Mem→member u (depPlusIn (sheetOf ws) k t) h
+
+-- no edge is left on the path
+pub dep-end : (ws : Words) (t u left : ℕ) → left ≡ 0 → false ≡ depNo ws left t u
+unfolding depNo
+dep-end ws t u left z = rw z
+
+-- edge i is one of the sheet's
+pub edge-there : (ws : Words) (i : ℕ) → i < at ws 1 → Mem (edgeNo ws i) (sheetOf ws .edges)
+edge-there ws i h = subst (λ (l : List Edge). Mem (edgeNo ws i) l) (sym (edges-are ws)) (mem-map (edgeNo ws) (upTo (at ws 1)) i (mem-upTo (at ws 1) i h))
+
+module _ (ws : Words) (u i : ℕ) (e : i ≡ first (goesNo ws u) (at ws 1)) where
+  -- the edge found goes into u
+  pub goes-there : i < at ws 1 → edgeNo ws i .parent ≡ u
+  unfolding goesNo
+  goes-there h = eqb-true _ _ (rw (← e) at (first-passes (goesNo ws u) (at ws 1) (found _ _ i e h) .1))
+
+  -- an edge into u is the one found
+  pub the-edge : Joined ws → i < at ws 1 → (x : Edge) → Mem x (sheetOf ws .edges) → x .parent ≡ u → x ≡ edgeNo ws i
+  the-edge j h x m q =
+      let l : u < at ws 0 = omega (arith, goes-there h, j .rules .edges i h .parent-in) in
+      only (into-only ws u i e (j .one-into u l) h) (select-mem (goesInto u) (sheetOf ws .edges) x m (eq→eqb q))
+    where
+      only : edgesInto (sheetOf ws) u ≡ edgeNo ws i ∷ [] → Mem x (edgesInto (sheetOf ws) u) → x ≡ edgeNo ws i
+      only r k = go (subst (λ (l : List Edge). Mem x l) r k)
+        where
+          go : Mem x (edgeNo ws i ∷ []) → x ≡ edgeNo ws i
+          go (inl z) = z
+          go (inr z) = absurd z
+
+  -- Dep+: no edge goes into u, it is not promised, it comes from t, or the walk goes on
+  module _ (t : ℕ) where
+    pub dep-none : (left : ℕ) → at ws 1 ≤ i → false ≡ depNo ws left t u
+    unfolding depNo
+    dep-none zero h = refl
+    dep-none (suc left) h = fails (depNo ws (suc left) t u) (λ m. go (last-edge (sheetOf ws) left t u (dep-mem ws (suc left) t u m)))
+      where
+        go : LastEdge (sheetOf ws) left t u → ⊥
+        go x = subst (λ (l : List Edge). Mem (x .edge) l) (into-none ws u i e h) (select-mem (goesInto u) (sheetOf ws .edges) (x .edge) (x .there) (eq→eqb (x .goes)))
+
+    module _ (j : Joined ws) (h : i < at ws 1) where
+      pub dep-loose : (left : ℕ) → (edgeNo ws i .promise ≡ 1 → ⊥) → false ≡ depNo ws left t u
+      unfolding depNo
+      dep-loose zero n = refl
+      dep-loose (suc left) n = fails (depNo ws (suc left) t u) (λ m. go (last-edge (sheetOf ws) left t u (dep-mem ws (suc left) t u m)))
+        where
+          go : LastEdge (sheetOf ws) left t u → ⊥
+          go x = n (eqb→≡ _ _ (subst (λ (y : Edge). T (isPromised y)) (the-edge j h (x .edge) (x .there) (x .goes)) (x .promised)))
+
+      -- the promised edge found is the last on a path
+      dep-by : (left : ℕ) → edgeNo ws i .promise ≡ 1 → (edgeNo ws i .child ≡ t) ⊎ Mem (edgeNo ws i .child) (depPlusIn (sheetOf ws) left t) → T (depNo ws (suc left) t u)
+      dep-by left p from =
+          mem-dep ws (suc left) t u (subst (λ (v : ℕ). Mem v (depPlusIn (sheetOf ws) (suc left) t)) (goes-there h)
+          (add-edge (sheetOf ws) left t (edgeNo ws i) (edge-there ws i h) (eq→eqb p) from))
+
+      pub dep-here : (left : ℕ) → (left ≡ 0 → ⊥) → edgeNo ws i .promise ≡ 1 → edgeNo ws i .child ≡ t → true ≡ depNo ws left t u
+      dep-here zero z p q = absurd (z refl)
+      dep-here (suc left) z p q = sym (T→≡ (depNo ws (suc left) t u) (dep-by left p (inl q)))
+
+      pub dep-on : (left : ℕ) (b : Bool) → (left ≡ 0 → ⊥) → edgeNo ws i .promise ≡ 1 → (edgeNo ws i .child ≡ t → ⊥)
+          → b ≡ depNo ws (left - 1) t (edgeNo ws i .child) → b ≡ depNo ws left t u
+      dep-on zero b z p q w = absurd (z refl)
+      dep-on (suc left) b z p q w =
+          w ∙ ap (λ (k : ℕ). depNo ws k t (edgeNo ws i .child)) (sub-one (suc left))
+          ∙ same-test (depNo ws left t (edgeNo ws i .child)) (depNo ws (suc left) t u)
+          (λ m. dep-by left p (inr (dep-mem ws left t (edgeNo ws i .child) m)))
+          (λ m. mem-dep ws left t (edgeNo ws i .child) (back (last-edge (sheetOf ws) left t u (dep-mem ws (suc left) t u m))))
+        where
+          back : LastEdge (sheetOf ws) left t u → Mem (edgeNo ws i .child) (depPlusIn (sheetOf ws) left t)
+          back x = go (subst (λ (y : Edge). (y .child ≡ t) ⊎ Mem (y .child) (depPlusIn (sheetOf ws) left t)) (the-edge j h (x .edge) (x .there) (x .goes)) (x .from))
+            where
+              go : (edgeNo ws i .child ≡ t) ⊎ Mem (edgeNo ws i .child) (depPlusIn (sheetOf ws) left t) → Mem (edgeNo ws i .child) (depPlusIn (sheetOf ws) left t)
+              go (inl r) = absurd (q r)
+              go (inr r) = r
+
+-- a column is listed exactly if some listing names it
+pub listed-is : (ws : Words) (t c : ℕ) → isListed (sheetOf ws) t c ≡ some (listingNames ws t c) (at ws 3)
+unfolding listingNames
+listed-is ws t c = ap (any (names t c)) (listed-are ws) ∙ any-up (names t c) (listingNo ws) (at ws 3)
+
+-- the edge into a table, and whether it is the root
+module _ (ws : Words) (t i : ℕ) (e : i ≡ first (goesNo ws t) (at ws 1)) where
+  pub edge-is : i < at ws 1 → edgeInto (sheetOf ws) t ≡ edgeNo ws i
+  unfolding edgeInto
+  edge-is h = rw (into-first ws t i e h .1)
+
+  pub root-yes : GoodSheet ws → t < at ws 0 → at ws 1 ≤ i → eqb t (root (sheetOf ws)) ≡ true
+  root-yes g l h = eq-eqb _ _ (g .one-root t l (eq-eqb (length (edgesInto (sheetOf ws) t)) 0 (ap length (into-none ws t i e h))))
+
+  pub root-no : GoodSheet ws → i < at ws 1 → eqb t (root (sheetOf ws)) ≡ false
+  root-no g h = ne-eqb _ _ (λ q. clash (eqb-true _ _ (subst (λ (r : ℕ). isRoot (sheetOf ws) r ≡ true) (sym q) (g .root-is))))
+    where
+      clash : length (edgesInto (sheetOf ws) t) ≡ 0 → ⊥
+      clash z = let x = into-first ws t i e h in omega (arith, ap length (x .1))
+
+pub member-others : (s : Sheet) (t u : ℕ) → member u (others s t) ≡ (ltb u (s .n) && not (eqb u t))
+unfolding others
+member-others s t u =
+    same-test (member u (others s t)) (ltb u (s .n) && not (eqb u t))
+    (λ m. let x = mem-select (λ v. not (eqb v t)) (upTo (s .n)) u (member→Mem u (others s t) m) in
+    and-both (ltb u (s .n)) (not (eqb u t)) (isT (lt-ltb _ _ (upTo-mem (s .n) u (x .0)))) (x .1))
+    (λ m. Mem→member u (others s t) (select-mem (λ v. not (eqb v t)) (upTo (s .n)) u
+    (mem-upTo (s .n) u (ltb-true u (s .n) (T→≡ (ltb u (s .n)) (and-fst (ltb u (s .n)) (not (eqb u t)) m)))) (and-snd (ltb u (s .n)) (not (eqb u t)) m)))
+
+-- Need: no table is left, or t's key is listed
+pub need-end : (ws : Words) (t u left : ℕ) → left ≡ 0 → false ≡ needNo ws left t u
+unfolding needNo
+need-end ws t u left z = rw z
+
+module _ (ws : Words) (t u l : ℕ) (le : l ≡ first (listingNames ws t 0) (at ws 3)) where
+  pub need-listed : (left : ℕ) → (left ≡ 0 → ⊥) → l < at ws 3 → false ≡ needNo ws left t u
+  unfolding needNo
+  need-listed zero z h = absurd (z refl)
+  need-listed (suc left) z h = rw (listed-is ws t 0 ∙ found _ _ l le h)
+
+  -- otherwise t is the root, or the walk goes to the child of the edge into it
+  module _ (g : GoodSheet ws) (h : t < at ws 0) (unlisted : at ws 3 ≤ l) (i : ℕ) (ie : i ≡ first (goesNo ws t) (at ws 1)) where
+    pub need-root : (left : ℕ) → (left ≡ 0 → ⊥) → at ws 1 ≤ i → (ltb u (at ws 0) && not (eqb u t)) ≡ needNo ws left t u
+    unfolding needNo
+    need-root zero z r = absurd (z refl)
+    need-root (suc left) z r =
+        rw (listed-is ws t 0 ∙ not-found _ _ l le unlisted, root-yes ws t i ie g h r, member-others (sheetOf ws) t u, n-is ws)
+
+    pub need-child : (left : ℕ) → (left ≡ 0 → ⊥) → i < at ws 1 → edgeNo ws i .child ≡ u → true ≡ needNo ws left t u
+    unfolding needNo
+    need-child zero z r q = absurd (z refl)
+    need-child (suc left) z r q =
+        rw (listed-is ws t 0 ∙ not-found _ _ l le unlisted, root-no ws t i ie g r, edge-is ws t i ie r, eq-eqb u (edgeNo ws i .child) (sym q))
+
+    pub need-on : (left : ℕ) (b : Bool) → (left ≡ 0 → ⊥) → i < at ws 1 → (edgeNo ws i .child ≡ u → ⊥)
+        → b ≡ needNo ws (left - 1) (edgeNo ws i .child) u → b ≡ needNo ws left t u
+    unfolding needNo
+    need-on zero b z r q w = absurd (z refl)
+    need-on (suc left) b z r q w =
+        rw (listed-is ws t 0 ∙ not-found _ _ l le unlisted, root-no ws t i ie g r, edge-is ws t i ie r, ne-eqb u (edgeNo ws i .child) (λ k. q (sym k)), ← sub-one (suc left)) w
+
+-- tests of what is chosen
+module _ {A : Type 0} where
+  pub any-select : (p q : A → Bool) (xs : List A) → any p (select q xs) ≡ any (λ x. q x && p x) xs
+  any-select p q [] = refl
+  any-select p q (x ∷ xs) = go (q x) (any-select p q xs)
+    where
+      go : (b : Bool) → any p (select q xs) ≡ any (λ x. q x && p x) xs → any p (cond b (x ∷ select q xs) (select q xs)) ≡ (b && p x || any (λ x. q x && p x) xs)
+      go true e = ap (λ (r : Bool). p x || r) e
+      go false e = e
+
+  pub all-select : (p q : A → Bool) (xs : List A) → all p (select (λ x. not (q x)) xs) ≡ all (λ x. q x || p x) xs
+  all-select p q [] = refl
+  all-select p q (x ∷ xs) = go (q x) (all-select p q xs)
+    where
+      go : (b : Bool) → all p (select (λ x. not (q x)) xs) ≡ all (λ x. q x || p x) xs
+          → all p (cond (not b) (x ∷ select (λ x. not (q x)) xs) (select (λ x. not (q x)) xs)) ≡ ((b || p x) && all (λ x. q x || p x) xs)
+      go true e = e
+      go false e = ap (λ (r : Bool). p x && r) e
+
+  pub all-not : (p : A → Bool) (xs : List A) → all (λ x. not (p x)) xs ≡ not (any p xs)
+  all-not p [] = refl
+  all-not p (x ∷ xs) = go (p x) (all-not p xs)
+    where
+      go : (b : Bool) → all (λ x. not (p x)) xs ≡ not (any p xs) → (not b && all (λ x. not (p x)) xs) ≡ not (b || any p xs)
+      go true e = refl
+      go false e = e
+
+-- kept, by number
+pub kept-is : (ws : Words) (t : ℕ) → keptNo ws t ≡ not (every (restsOn ws t) (at ws 0) && not (some (neededBy ws t) (at ws 0)))
+unfolding keptNo kept others restsOn neededBy
+kept-is ws t =
+    ap₂ (λ a b. not (a && b))
+    (all-select (λ u. member u (depPlus s t)) (λ u. eqb u t) (upTo (s .n)) ∙ all-upTo (λ u. eqb u t || member u (depPlus s t)) (s .n)
+    ∙ ap (every (λ u. eqb u t || member u (depPlus s t))) (n-is ws))
+    (all-not (λ u. member t (need s u)) (upTo (s .n)) ∙ ap not (any-upTo (λ u. member t (need s u)) (s .n) ∙ ap (some (λ u. member t (need s u))) (n-is ws)))
+  where
+    s : Sheet
+    s = sheetOf ws
+
+module _ (ws : Words) (t u : ℕ) where
+  pub rests-self : u ≡ t → restsOn ws t u ≡ true
+  unfolding restsOn
+  rests-self q = rw (eq-eqb u t q)
+
+  pub rests-dep : (b : Bool) → (u ≡ t → ⊥) → b ≡ depNo ws (at ws 0) t u → restsOn ws t u ≡ b
+  unfolding restsOn depNo depPlus
+  rests-dep b q e = rw (ne-eqb u t q) (ap (λ (k : ℕ). member u (depPlusIn (sheetOf ws) k t)) (n-is ws) ∙ sym e)
+
+  pub needed-is : (b : Bool) → b ≡ needNo ws (at ws 0) u t → neededBy ws t u ≡ b
+  unfolding neededBy needNo need
+  needed-is b e = ap (λ (k : ℕ). member t (needIn (sheetOf ws) k u)) (n-is ws) ∙ sym e
+
+module _ (ws : Words) (t : ℕ) where
+  pub kept-free : every (restsOn ws t) (at ws 0) ≡ false → true ≡ keptNo ws t
+  kept-free h = rw (kept-is ws t, h)
+
+  pub kept-needed : (b : Bool) → every (restsOn ws t) (at ws 0) ≡ true → b ≡ some (neededBy ws t) (at ws 0) → b ≡ keptNo ws t
+  kept-needed b h e = rw (kept-is ws t, h, ← e) (sym (Bool·not-not b))
+
+-- shown, by number
+pub shown-is : (ws : Words) (t c : ℕ) → shownNo ws t c ≡ (eqb c 0 || some (leavesBy ws t c) (at ws 1) || some (listingNames ws t c) (at ws 3))
+unfolding shownNo isShown leavesBy
+shown-is ws t c =
+    ap₂ (λ a b. eqb c 0 || a || b)
+    (any-select (λ e. eqb (e .column) c) (leaves t) (sheetOf ws .edges) ∙ ap (any (λ e. leaves t e && eqb (e .column) c)) (edges-are ws)
+    ∙ any-up (λ e. leaves t e && eqb (e .column) c) (edgeNo ws) (at ws 1))
+    (listed-is ws t c)
+
+-- edge i leaves table t by column c
+pub record Leaves (ws : Words) (t c i : ℕ) : Type 0 where
+  pub table : edgeNo ws i .child ≡ t
+  pub column : edgeNo ws i .column ≡ c
+
+pub leaves-facts : (ws : Words) (t c i : ℕ) → leavesBy ws t c i ≡ true → Leaves ws t c i
+unfolding leavesBy
+leaves-facts ws t c i h = let a = and-true _ _ h in record { table = eqb-true _ _ (a .0); column = eqb-true _ _ (a .1) }
+
+pub leaves-make : (ws : Words) (t c i : ℕ) → Leaves ws t c i → leavesBy ws t c i ≡ true
+unfolding leavesBy
+leaves-make ws t c i h = rw (eq-eqb _ _ (h .table), eq-eqb _ _ (h .column))

@@ -1,0 +1,173 @@
+// What is derived of a good sheet (document 01): the root, Dep, Dep+ and Need, which tables are kept, which columns are shown.
+ghost use mathlib.Core.Path.{_≡_};
+ghost use mathlib.Core.Bool.{not, _&&_};
+ghost use lib.Dec.{eqb, ltb};
+ghost use Prim.Native.Nat.{ℕ, _<_};
+ghost use Rattle.lists.specs.Lists.{at};
+ghost use Rattle.lists.specs.Loops.{every, some};
+ghost use Rattle.meaning.specs.Sheet.{sheetOf};
+ghost use Rattle.meaning.specs.Plan.{root};
+ghost use Rattle.words.specs.Rules.{Counts};
+ghost use Rattle.sheet.specs.Tree.{Joined, GoodSheet};
+ghost use Rattle.derive.specs.Derived.{depNo, needNo, restsOn, neededBy, keptNo, leavesBy, shownNo};
+
+// The table with no edge into it.
+pub fn root_of(sheet: &[u64]) -> u64
+    requires { ⌜ GoodSheet (now sheet) ⌝ }
+    ensures { λ t. ⌜ t ≡ root (sheetOf (now (sheet .entry))) ⌝ }
+{
+    let n = sheet[0];
+    let e = sheet[1] as usize;
+    let mut t = 0;
+    while t < n {
+        if e <= sheet::edge_into(sheet, t) {
+            return t;
+        }
+        t += 1;
+    }
+    n
+}
+
+// Whether u is in Dep+(t), over paths of at most `left` edges (with 1: in Dep(t)). The walk goes from u, by the one edge
+// into it, back towards t, and each step leaves a shorter path.
+pub fn depends(sheet: &[u64], t: u64, u: u64, left: usize) -> bool
+    requires { ⌜ Joined (now sheet) ⌝ }
+    ensures { λ b. ⌜ b ≡ depNo (now (sheet .entry)) left t u ⌝ }
+{
+    if left == 0 {
+        return false;
+    }
+    let k = sheet::edge_into(sheet, u);
+    if sheet[1] as usize <= k {
+        return false;
+    }
+    let at = 4 + sheet[0] as usize + 4 * k;
+    if sheet[at + 3] != 1 {
+        return false;
+    }
+    let q = sheet[at];
+    if q == t {
+        return true;
+    }
+    depends(sheet, t, q, left - 1)
+}
+
+// Whether u is in Need(t), with `left` tables left on the path.
+pub fn needs(sheet: &[u64], t: u64, u: u64, left: usize) -> bool
+    requires { ⌜ GoodSheet (now sheet) × (t < at (now sheet) 0) ⌝ }
+    ensures { λ b. ⌜ b ≡ needNo (now (sheet .entry)) left t u ⌝ }
+{
+    if left == 0 {
+        return false;
+    }
+    let p = sheet[3] as usize;
+    if words::listing_of(sheet, t, 0, p) < p {
+        return false;
+    }
+    let k = sheet::edge_into(sheet, t);
+    if sheet[1] as usize <= k {
+        return is_other(sheet[0], t, u);
+    }
+    let q = sheet[4 + sheet[0] as usize + 4 * k];
+    if q == u {
+        return true;
+    }
+    needs(sheet, q, u, left - 1)
+}
+
+// Whether u is one of n tables other than t.
+fn is_other(n: u64, t: u64, u: u64) -> bool
+    ensures { λ b. ⌜ b ≡ (ltb u n && not (eqb u t)) ⌝ }
+{
+    if n <= u {
+        return false;
+    }
+    if u == t {
+        return false;
+    }
+    true
+}
+
+// Whether Dep+(t) is every other table.
+fn rests_on_all(sheet: &[u64], t: u64) -> bool
+    requires { ⌜ Joined (now sheet) ⌝ }
+    ensures { λ b. ⌜ b ≡ every (restsOn (now (sheet .entry)) t) (at (now (sheet .entry)) 0) ⌝ }
+{
+    let n = sheet[0];
+    let mut u = 0;
+    while u < n {
+        let v = u;
+        u += 1;
+        if v != t {
+            if !depends(sheet, t, v, n as usize) {
+                return false;
+            }
+        }
+    }
+    true
+}
+
+// Whether t is in some table's Need.
+fn is_needed(sheet: &[u64], t: u64) -> bool
+    requires { ⌜ GoodSheet (now sheet) ⌝ }
+    ensures { λ b. ⌜ b ≡ some (neededBy (now (sheet .entry)) t) (at (now (sheet .entry)) 0) ⌝ }
+{
+    let n = sheet[0];
+    let mut u = 0;
+    while u < n {
+        if needs(sheet, u, t, n as usize) {
+            return true;
+        }
+        u += 1;
+    }
+    false
+}
+
+// Whether t has a side table: it has none exactly if Dep+(t) is every other table and t is in no table's Need.
+pub fn is_kept(sheet: &[u64], t: u64) -> bool
+    requires { ⌜ GoodSheet (now sheet) ⌝ }
+    ensures { λ b. ⌜ b ≡ keptNo (now (sheet .entry)) t ⌝ }
+{
+    if !rests_on_all(sheet, t) {
+        return true;
+    }
+    is_needed(sheet, t)
+}
+
+// Whether c is the child column of an edge that leaves t.
+fn is_child_column(sheet: &[u64], t: u64, c: u64) -> bool
+    requires { ⌜ Counts (now sheet) ⌝ }
+    ensures { λ b. ⌜ b ≡ some (leavesBy (now (sheet .entry)) t c) (at (now (sheet .entry)) 1) ⌝ }
+{
+    let e = sheet[1] as usize;
+    let from = 4 + sheet[0] as usize;
+    let mut k = 0;
+    while k < e {
+        let i = k;
+        k += 1;
+        if sheet[from + 4 * i] == t {
+            if sheet[from + 4 * i + 1] == c {
+                return true;
+            }
+        }
+    }
+    false
+}
+
+// Whether t's side table shows column c.
+pub fn is_shown(sheet: &[u64], t: u64, c: u64) -> bool
+    requires { ⌜ Counts (now sheet) ⌝ }
+    ensures { λ b. ⌜ b ≡ shownNo (now (sheet .entry)) t c ⌝ }
+{
+    if c == 0 {
+        return true;
+    }
+    if is_child_column(sheet, t, c) {
+        return true;
+    }
+    let p = sheet[3] as usize;
+    if words::listing_of(sheet, t, c, p) < p {
+        return true;
+    }
+    false
+}
