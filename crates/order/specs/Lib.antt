@@ -1,0 +1,2 @@
+pub mod Merges
+pub mod Orders
