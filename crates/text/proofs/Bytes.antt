@@ -14,7 +14,7 @@ use borrow.Author.Tests.{not-true, not-false, ne-eqb, le-leb, lt-leb, lt-ltb, le
 use Rattle.lists.specs.Lists.{flat}
 use Rattle.text.specs.Reading.{Text, isBlank, isDigit}
 use Rattle.text.specs.Readers.{most, broken, emptied, kept, longer, afterBlank, afterDigit, afterByte, afterBytes, afterChunks}
-use Rattle.text.specs.declared.Reader.{Reader}
+use Rattle.text.specs.declared.reading.Reader.{Reader}
 
 pub blank : (b : ℕ) → (b ≡ 10) ⊎ (b ≡ 32) → isBlank b ≡ true
 unfolding isBlank

@@ -14,7 +14,7 @@ use borrow.Author.Tests.{lt-ltb, le-ltb, ltb-true, ltb-false}
 use Rattle.lists.specs.Lists.{Words, all, select}
 use Rattle.text.specs.Reading.{Text, isBlank, isDigit, onward, value, before, pieces, isSome, decimals, isNumber, Reading, says, isnt, readText}
 use Rattle.text.specs.Readers.{most, fresh, broken, emptied, kept, longer, afterBlank, afterByte, afterBytes, finished, readingOf, firstWords}
-use Rattle.text.specs.declared.Reader.{Reader}
+use Rattle.text.specs.declared.reading.Reader.{Reader}
 use Rattle.text.proofs.Bytes.{blank, passed, failing, byte-failed, byte-blank, byte-digit, byte-other, digit-longer, digit-broken}
 
 -- words before what is read next

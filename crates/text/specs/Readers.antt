@@ -6,7 +6,7 @@ use mathlib.Core.List.{List, [], _∷_}
 use lib.Dec.{ltb}
 use lib.ListN.{take, set, replicate}
 use Rattle.text.specs.Reading.{Text, isBlank, isDigit, Reading, says, isnt}
-use Rattle.text.specs.declared.Reader.{Reader}
+use Rattle.text.specs.declared.reading.Reader.{Reader}
 
 -- A sheet has at most 145 words: one more is kept, so that a text that says too many is still known by its length
 abbrev pub most : ℕ

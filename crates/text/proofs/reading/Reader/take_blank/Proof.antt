@@ -3,8 +3,8 @@
 use Rattle.text.specs.Readers.{kept, emptied}
 use Rattle.text.proofs.Bytes.{blank-none, blank-full, blank-kept}
 use borrow.Author.Needs.{needs}
-use Rattle.text.proofs.Reader.take_blank.Statement.{statement}
-use Rattle.text.proofs.Reader.take_blank.Tie as tie
+use Rattle.text.proofs.reading.Reader.take_blank.Statement.{statement}
+use Rattle.text.proofs.reading.Reader.take_blank.Tie as tie
 
 returns : tie.Need-returns
 returns c = blank-none _ (c .if1 .taken)

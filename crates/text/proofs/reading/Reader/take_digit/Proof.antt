@@ -4,8 +4,8 @@ use Rattle.text.specs.Readers.{longer}
 use Rattle.text.proofs.Bytes.{digit-fits, digit-too-large}
 use mathlib.Core.Path.{_∙_}
 use borrow.Author.Needs.{needs}
-use Rattle.text.proofs.Reader.take_digit.Statement.{statement}
-use Rattle.text.proofs.Reader.take_digit.Tie as tie
+use Rattle.text.proofs.reading.Reader.take_digit.Statement.{statement}
+use Rattle.text.proofs.reading.Reader.take_digit.Tie as tie
 
 sub-if1 : tie.Need-sub-if1
 sub-if1 c = search needs

@@ -3,8 +3,8 @@
 use mathlib.Core.Logic.{⊎-elim}
 use Rattle.text.proofs.Bytes.{blank, no-blank, digit, below-digits, above-digits, byte-failed, byte-blank, byte-digit, byte-other}
 use borrow.Author.Needs.{needs}
-use Rattle.text.proofs.Reader.take_byte.Statement.{statement}
-use Rattle.text.proofs.Reader.take_byte.Tie as tie
+use Rattle.text.proofs.reading.Reader.take_byte.Statement.{statement}
+use Rattle.text.proofs.reading.Reader.take_byte.Tie as tie
 
 returns : tie.Need-returns
 returns c = byte-failed _ (c .before .args .self) _ (c .if1 .taken)

@@ -7,8 +7,8 @@ use lib.ListN.{length, take}
 use Rattle.text.specs.Readers.{afterBytes}
 use Rattle.text.proofs.Bytes.{bytes-more}
 use borrow.Author.Needs.{needs}
-use Rattle.text.proofs.Reader.take_chunk.Statement.{statement}
-use Rattle.text.proofs.Reader.take_chunk.Tie as tie
+use Rattle.text.proofs.reading.Reader.take_chunk.Statement.{statement}
+use Rattle.text.proofs.reading.Reader.take_chunk.Tie as tie
 
 abbrev Inv-loop : tie.InvT-loop
 Inv-loop self₀ chunk i₀ self i = (i ≤ length chunk) × (self ≡ afterBytes self₀ (take i chunk))

@@ -2,8 +2,8 @@
 -- Assumes nothing.
 use Rattle.text.specs.Readers.{broken}
 use borrow.Author.Needs.{needs}
-use Rattle.text.proofs.Reader.broken.Statement.{statement}
-use Rattle.text.proofs.Reader.broken.Tie as tie
+use Rattle.text.proofs.reading.Reader.broken.Statement.{statement}
+use Rattle.text.proofs.reading.Reader.broken.Tie as tie
 
 returns : tie.Need-returns
 unfolding broken

@@ -2,8 +2,8 @@
 -- Assumes nothing.
 use Rattle.text.specs.Readers.{finished}
 use borrow.Author.Needs.{needs}
-use Rattle.text.proofs.Reader.finish.Statement.{statement}
-use Rattle.text.proofs.Reader.finish.Tie as tie
+use Rattle.text.proofs.reading.Reader.finish.Statement.{statement}
+use Rattle.text.proofs.reading.Reader.finish.Tie as tie
 
 take-byte-requires : tie.Need-take-byte-requires
 take-byte-requires c κs = search needs
