@@ -1,0 +1,19 @@
+-- Worked texts of a sheet.
+-- Assumes nothing.
+use Prim.Native.Nat.{ℕ}
+use mathlib.Core.Path.{_≡_, refl}
+use mathlib.Core.List.{List, [], _∷_}
+use Rattle.text.specs.Ascii.{ascii}
+use Rattle.text.specs.Reading.{Text, isBlank, isDigit, onward, value, before, pieces, isSome, decimals, isNumber, Reading, says, isnt, readText}
+
+pub blanks : readText (ascii " \n007  12\n\n") ≡ says (7 ∷ 12 ∷ [])
+unfolding isBlank isDigit onward value before pieces isSome decimals isNumber readText
+blanks = refl
+
+pub largest : readText (ascii "18446744073709551615") ≡ says (18446744073709551615 ∷ [])
+unfolding isBlank isDigit onward value before pieces isSome decimals isNumber readText
+largest = refl
+
+pub too-large : readText (ascii "00018446744073709551616") ≡ isnt
+unfolding isBlank isDigit onward value before pieces isSome decimals isNumber readText
+too-large = refl
