@@ -1,0 +1,10 @@
+pub mod Calls
+pub mod Rooms
+pub mod Cases
+pub mod Rows
+pub mod Inserts
+pub mod Deletes
+pub mod Updates
+pub mod Marking
+pub mod Kept
+pub mod Written

@@ -1,0 +1,65 @@
+-- The rows that a change of a sound store takes and puts: the list rows by walks, and the side row.
+-- Assumes nothing.
+use Prim.Native.Nat.{ℕ, _<_}
+use mathlib.Core.Path.{_≡_, refl, ap}
+use mathlib.Core.Bool.{Bool, true, false, cond}
+use mathlib.Core.List.{[], _∷_}
+use mathlib.Core.Logic.{⊎-elim}
+use native.Mathlib.Omega.{arith}
+use lib.Dec.{T}
+use lib.ListN.{length}
+use Rattle.lists.specs.Lists.{Words}
+use Rattle.lists.specs.Totals.{total, Same}
+use Rattle.lists.proofs.Truth.{isT, T→≡, F→≡, decided, and-snd, and-both, cond-true}
+use Rattle.rows.specs.Rows.{Row, pick, rising, hasRow, hasRows}
+use Rattle.meaning.specs.Sheet.{Sheet}
+use Rattle.meaning.specs.Plan.{kept, shown}
+use Rattle.meaning.specs.Base.{rowsOf}
+use Rattle.meaning.specs.Meaning.{Model}
+use Rattle.meaning.specs.Store.{modelOf, sound}
+use Rattle.meaning.specs.Change.{qualifies, canTake, rowsThrough, sideRow, oldRow}
+use Rattle.laws.proofs.Sheets.{Good}
+use Rattle.laws.proofs.Stores.{sound-get}
+use Rattle.laws.proofs.Changes.{side-row-none}
+use Rattle.walks.proofs.Sides.{rows-through, no-through, sound-once}
+use Rattle.effects.specs.Applied.{walkRows}
+
+module _ (s : Sheet) (g : Good s) (ws : Words) (ok : T (sound s ws)) where
+  -- the list stands in rising order
+  pub list-rising : T (rising (modelOf s ws .list))
+  unfolding modelOf
+  list-rising = sound-get s ws ok .in-order (s .n) (omega arith)
+
+  -- the list rows of the ways through a qualified row are those of the walks
+  pub walk-rows : (t : ℕ) → t < s .n → (r : Row) → T (qualifies s (modelOf s ws) t r) → Same (rowsThrough s (modelOf s ws) t r) (walkRows s (modelOf s ws) t r)
+  unfolding walkRows
+  walk-rows t l r q =
+      ⊎-elim (λ can. rw (T→≡ (canTake s t) can) (rows-through s g (modelOf s ws) t l r (sound-once s ws ok) q can))
+      (λ no. rw (F→≡ (canTake s t) no)
+      (λ f. ap (total f) (no-through s (modelOf s ws) t r (λ h. no (and-snd (qualifies s (modelOf s ws) t r) (canTake s t) h)))))
+      (decided (canTake s t))
+
+-- the side row of a kept table
+pub side-row-one : (s : Sheet) (t : ℕ) (r : Row) → T (kept s t) → sideRow s t r ≡ pick (shown s t) r ∷ []
+unfolding sideRow
+side-row-one s t r k = cond-true (kept s t) (pick (shown s t) r ∷ []) [] k
+
+pub side-row-long : (s : Sheet) (t : ℕ) (r r′ : Row) → length (sideRow s t r) ≡ length (sideRow s t r′)
+unfolding sideRow
+side-row-long s t r r′ = go (kept s t)
+  where
+    go : (b : Bool) → length (cond b (pick (shown s t) r ∷ []) []) ≡ length (cond b (pick (shown s t) r′ ∷ []) [])
+    go true = refl
+    go false = refl
+
+-- a qualified row that the store does not contradict stands in its side table
+module _ (s : Sheet) (m : Model) (t : ℕ) (r : Row) (old : oldRow s m t r ≡ true) (q : qualifies s m t r ≡ true) where
+  pub side-there : T (kept s t) → T (hasRow (pick (shown s t) r) (rowsOf (m .sides) t))
+  unfolding oldRow
+  side-there k = isT (rw (T→≡ (kept s t) k, q) at old)
+
+  pub side-has : T (hasRows (sideRow s t r) (rowsOf (m .sides) t))
+  unfolding hasRows
+  side-has =
+      ⊎-elim (λ k. rw (side-row-one s t r k) (and-both (hasRow (pick (shown s t) r) (rowsOf (m .sides) t)) true (side-there k) tt))
+      (λ no. rw (side-row-none s t r no) tt) (decided (kept s t))

@@ -1,0 +1,50 @@
+-- A change below its tests 1 to 7: what it does to a sound store (document 01, "One change, on any sound store").
+-- Assumes nothing.
+use Prim.Native.Nat.{ℕ}
+use mathlib.Core.Path.{_≡_}
+use mathlib.Core.Bool.{cond}
+use mathlib.Core.List.{[], map}
+use lib.Dec.{T}
+use lib.ListN.{set}
+use Rattle.lists.specs.Lists.{Words}
+use Rattle.rows.specs.Rows.{Row, Rows, takeRows, hasRows}
+use Rattle.rows.specs.Marks.{unmarked}
+use Rattle.meaning.specs.Answers.{Outcome, refused}
+use Rattle.meaning.specs.Sheet.{Sheet}
+use Rattle.meaning.specs.Base.{Change}
+use Rattle.meaning.specs.Meaning.{listRow, Model}
+use Rattle.meaning.specs.Store.{storeOf, modelOf, fits}
+use Rattle.meaning.specs.Change.{canTake, rowsFound, agrees, modelAfter, accepted}
+use Rattle.walks.specs.Walk.{allWalks, withRow}
+
+-- tests 8 and 9, and the outcome of a change that passes them
+unfoldable pub applied : Sheet → Words → Change → Outcome
+applied s store c =
+    cond (agrees s (modelOf s store) c) (cond (fits s (modelAfter s store c)) (accepted s store c) (refused 9 store)) (refused 8 store)
+
+-- an accepted change's outcome: the rows taken from the list and added to it, and the rows that then stand in table t's side table and on the list
+unfoldable pub done : Sheet → Words → ℕ → ℕ → ℕ → Rows → Rows → Outcome
+done s store t taken added side list =
+    record {
+      number = 0;
+      taken = taken;
+      added = added;
+      words = storeOf s (record { sides = set (modelOf s store .sides) t side; list = list });
+    }
+
+-- an accepted change that changes nothing
+abbrev pub nothing : Words → Outcome
+nothing store = record { number = 0; taken = 0; added = 0; words = store }
+
+-- the list rows of the walks through r, in the order in which they are walked: none where no ways can be taken
+unfoldable pub walkRows : Sheet → Model → ℕ → Row → Rows
+walkRows s m t r = cond (canTake s t) (map (listRow s) (allWalks s (withRow s m t r))) []
+
+-- the list rows that an update of r replaces: of the walks through r, or found by r's key
+unfoldable pub replacedRows : Sheet → Model → ℕ → Row → Rows
+replacedRows s m t r = cond (canTake s t) (walkRows s m t r) (rowsFound s m t r)
+
+-- the marks on a list are exactly of these rows: each stands there as often, and what is unmarked is what is left without them
+pub record Marked (out rows : Rows) (marks : Words) : Type 0 where
+  pub there : T (hasRows out rows)
+  pub left : unmarked marks rows ≡ takeRows out rows
