@@ -21,7 +21,7 @@ use Rattle.meaning.specs.Base.{rowsOf, Change, byKind, goodChange, hasWidth}
 use Rattle.meaning.specs.Meaning.{listRow, Model}
 use Rattle.meaning.specs.Store.{partRows, storeOf, modelOf, sound, rowsAt, fits}
 use Rattle.meaning.specs.Change.{qualifies, canTake, waysThrough, rowsThrough, showsKey, keysReached, rowsFound, withColumns, Effect, noEffect, sideRow, insertEffect, deleteEffect, updateEffect, effect, after, newKey, oldRow, foundShow, agrees, modelAfter}
-use Rattle.laws.proofs.Lists.{by-set, apart}
+use Rattle.laws.proofs.Lists.{by-set, facts}
 use Rattle.laws.proofs.Sheets.{Good}
 use Rattle.laws.proofs.Columns.{columns-side, columns-list, key-pick, list-row-length, with-length}
 use Rattle.laws.proofs.Keys.{once-put, once-take, key-gone, wide-map, wide-get, wide-puts, wide-takes}
@@ -64,13 +64,13 @@ by-kind s P insert delete update c h = go (eqb (c .kind) 1) refl (eqb (c .kind) 
         → T (cond a (eqb (length r) 0 && hasWidth s t r′)
         (cond b (hasWidth s t r && eqb (length r′) 0) (cond d (hasWidth s t r && hasWidth s t r′ && eqb (key r) (key r′)) false))) → P c
     go true e b f d g k =
-        let w = apart (eqb (length r) 0 ∷ hasWidth s t r′ ∷ []) k in
+        let w = facts (eqb (length r) 0 ∷ hasWidth s t r′ ∷ []) k in
         of-kind 1 (isT e) (insert t r r′ inside (eqb→≡ (length r) 0 (w .0)) (eqb→≡ (length r′) (width s t) (w .1 .0)))
     go false e true f d g k =
-        let w = apart (hasWidth s t r ∷ eqb (length r′) 0 ∷ []) k in
+        let w = facts (hasWidth s t r ∷ eqb (length r′) 0 ∷ []) k in
         of-kind 2 (isT f) (delete t r r′ inside (eqb→≡ (length r) (width s t) (w .0)) (eqb→≡ (length r′) 0 (w .1 .0)))
     go false e false f true g k =
-        let w = apart (hasWidth s t r ∷ hasWidth s t r′ ∷ eqb (key r) (key r′) ∷ []) k in
+        let w = facts (hasWidth s t r ∷ hasWidth s t r′ ∷ eqb (key r) (key r′) ∷ []) k in
         of-kind 3 (isT g)
         (update t r r′ inside (eqb→≡ (length r) (width s t) (w .0)) (eqb→≡ (length r′) (width s t) (w .1 .0)) (eqb→≡ (key r) (key r′) (w .1 .1 .0)))
     go false e false f false g k = absurd k
@@ -228,7 +228,7 @@ module _ (s : Sheet) (g : Good s) (m : Model) (p : Proper s m) where
       (λ t r r′ l e e′ h. by-qualified t l r (deleteEffect s m t r) (λ q.
       proper-after s m p t l (deleteEffect s m t r) tt (λ k. refl) (once-out s g m p t l r) tt))
       (λ t r r′ l e e′ k h. by-qualified t l r (updateEffect s m t r r′) (λ q.
-      let old = apart (oldRow s m t r ∷ foundShow s m t r ∷ hasRows (effect s m (made 3 t r r′) .listOut) (m .list) ∷ []) h in
+      let old = facts (oldRow s m t r ∷ foundShow s m t r ∷ hasRows (effect s m (made 3 t r r′) .listOut) (m .list) ∷ []) h in
       proper-after s m p t l (updateEffect s m t r r′) (side-row-wide s t r′ l) (side-row-none s t r′) (once-swap s g m p t l r r′ k q (old .0))
       (by-can (canTake s t) (rowsThrough s m t r′) (map (withColumns (s .listed) t r′) (rowsFound s m t r)) (through-wide s m t r′) (found-wide s m p t r r′))))
     where

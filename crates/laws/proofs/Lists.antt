@@ -35,33 +35,34 @@ pub length-upTo : {A : Type 0} (f : ℕ → A) (n : ℕ) → length (map f (upTo
 length-upTo f n = length-map (upTo n) f ∙ length-from 0 n
 
 -- A chain of tests a && b && .., and the facts it stands for
-abbrev chainFrom : Bool → List Bool → Bool
-chainFrom a [] = a
-chainFrom a (b ∷ bs) = chainFrom (a && b) bs
-
-abbrev pub chain : List Bool → Bool
-chain [] = true
-chain (a ∷ bs) = chainFrom a bs
+abbrev pub tests : Bool → List Bool → Bool
+tests a [] = a
+tests a (b ∷ bs) = tests (a && b) bs
 
 abbrev pub Each : List Bool → Type 0
 Each [] = Unit {0}
 Each (b ∷ bs) = T b × Each bs
 
-apart-from : (a : Bool) (bs : List Bool) → T (chainFrom a bs) → Each (a ∷ bs)
-apart-from a [] h = (h, tt)
-apart-from a (b ∷ bs) h = let k = apart-from (a && b) bs h in (and-fst a b (k .0), (and-snd a b (k .0), k .1))
+pub apart : (a : Bool) (bs : List Bool) → T (tests a bs) → Each (a ∷ bs)
+apart a [] h = (h, tt)
+apart a (b ∷ bs) h = let k = apart (a && b) bs h in (and-fst a b (k .0), (and-snd a b (k .0), k .1))
 
-pub apart : (bs : List Bool) → T (chain bs) → Each bs
-apart [] h = tt
-apart (a ∷ bs) h = apart-from a bs h
+pub together : (a : Bool) (bs : List Bool) → Each (a ∷ bs) → T (tests a bs)
+together a [] h = h .0
+together a (b ∷ bs) h = together (a && b) bs (and-both a b (h .0) (h .1 .0), h .1 .1)
 
-together-from : (a : Bool) (bs : List Bool) → Each (a ∷ bs) → T (chainFrom a bs)
-together-from a [] h = h .0
-together-from a (b ∷ bs) h = together-from (a && b) bs (and-both a b (h .0) (h .1 .0), h .1 .1)
+-- the same of a list of tests that has a name
+abbrev pub chain : List Bool → Bool
+chain [] = true
+chain (a ∷ bs) = tests a bs
 
-pub together : (bs : List Bool) → Each bs → T (chain bs)
-together [] h = tt
-together (a ∷ bs) h = together-from a bs h
+pub facts : (bs : List Bool) → T (chain bs) → Each bs
+facts [] h = tt
+facts (a ∷ bs) h = apart a bs h
+
+pub facts-make : (bs : List Bool) → Each bs → T (chain bs)
+facts-make [] h = tt
+facts-make (a ∷ bs) h = together a bs h
 
 -- the one element of a list with no second
 pub single : {A : Type 0} (d x : A) (xs : List A) → length xs ≤ 1 → Mem x xs → getD xs 0 d ≡ x

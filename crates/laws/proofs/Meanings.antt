@@ -16,7 +16,7 @@ use Rattle.meaning.specs.Plan.{promised}
 use Rattle.meaning.specs.Base.{Tables, rowsOf, baseStart, baseOf, isMet, hasParents, hasWidth, lawfulTable, lawful, goodBase}
 use Rattle.meaning.specs.Meaning.{qualified, sideTable, theList, meaning}
 use Rattle.meaning.specs.Change.{qualifies, Effect, after}
-use Rattle.laws.proofs.Lists.{by-set, at-upTo, length-upTo, Each, apart, together}
+use Rattle.laws.proofs.Lists.{by-set, at-upTo, length-upTo, Each, facts, facts-make}
 use Rattle.laws.proofs.Sheets.{Good}
 use Rattle.laws.proofs.Trees.{Promised, promised-is, is-promised, parent-other}
 use Rattle.laws.proofs.Ways.{list-same}
@@ -53,7 +53,7 @@ lawful-get s B l h =
   where
     table : (t : ℕ) → t < s .n → Each (all (hasWidth s t) (rowsOf B t) ∷ noKeyTwice (rowsOf B t) ∷ all (hasParents s B t) (rowsOf B t) ∷ [])
     table t k =
-        apart (all (hasWidth s t) (rowsOf B t) ∷ noKeyTwice (rowsOf B t) ∷ all (hasParents s B t) (rowsOf B t) ∷ [])
+        facts (all (hasWidth s t) (rowsOf B t) ∷ noKeyTwice (rowsOf B t) ∷ all (hasParents s B t) (rowsOf B t) ∷ [])
         (all-get (lawfulTable s B) (tables s) h t (mem-upTo (s .n) t k))
 
 pub lawful-make : (s : Sheet) (B : Tables) → Lawful s B → T (lawful s B)
@@ -61,7 +61,7 @@ unfolding lawful lawfulTable
 lawful-make s B l =
     all-make (lawfulTable s B) (tables s) (λ t m.
     let k = upTo-mem (s .n) t m in
-    together (all (hasWidth s t) (rowsOf B t) ∷ noKeyTwice (rowsOf B t) ∷ all (hasParents s B t) (rowsOf B t) ∷ []) (
+    facts-make (all (hasWidth s t) (rowsOf B t) ∷ noKeyTwice (rowsOf B t) ∷ all (hasParents s B t) (rowsOf B t) ∷ []) (
       all-make (hasWidth s t) (rowsOf B t) (λ x i. eq→eqb (l .widths t k x i)),
       (l .keys t k, (all-make (hasParents s B t) (rowsOf B t) (λ x i. parents-make s B t x (l .parents t k x i)), tt)),
     ))
@@ -103,7 +103,7 @@ pub base-lawful : (s : Sheet) (run : Words) → T (goodBase s run) → Lawful s 
 unfolding goodBase
 base-lawful s run h =
     lawful-get s (baseOf s run) (base-many s run)
-    (apart (eqb (length run) (baseStart s run (s .n)) ∷ all (λ t. leb (at run t) 65535) (tables s) ∷ lawful s (baseOf s run) ∷ []) h .1 .1 .0)
+    (facts (eqb (length run) (baseStart s run (s .n)) ∷ all (λ t. leb (at run t) 65535) (tables s) ∷ lawful s (baseOf s run) ∷ []) h .1 .1 .0)
 
 -- The model's side tables and list
 pub meaning-many : (s : Sheet) (B : Tables) → length (meaning s B .sides) ≡ s .n

@@ -16,7 +16,7 @@ use Rattle.rows.proofs.Cut.{cut-length}
 use Rattle.meaning.specs.Sheet.{Edge, Condition, Listed, Sheet, edgeOf, conditionOf, listedOf, edgesAt, conditionsAt, listedAt, roomsAt, sheetOf, tables, width, room, goodCounts, goodEdge, goodCondition, goodListed, sameListed, goodWords, goesInto, edgesInto, isRoot, reached, goodTree, sheetRefusal}
 use Rattle.meaning.specs.Plan.{root, edgeInto}
 use Rattle.meaning.specs.Demands.{sheetTests}
-use Rattle.laws.proofs.Lists.{Each, apart, single}
+use Rattle.laws.proofs.Lists.{Each, facts, single}
 use Rattle.laws.proofs.Numbers.{Passed, first-zero, sheet-first}
 
 -- the sheet's counts
@@ -82,29 +82,29 @@ treeTests s =
 module _ (s : Sheet) (c : Counted s) (words-good : T (goodWords s)) (tree-good : T (goodTree s)) where
   words : Each (wordTests s)
   unfolding goodWords
-  words = apart (wordTests s) words-good
+  words = facts (wordTests s) words-good
 
   width-in : (t : ℕ) → t < s .n → Each (betweenTests 1 8 (width s t))
   width-in t l =
-      apart (betweenTests 1 8 (width s t))
+      facts (betweenTests 1 8 (width s t))
       (all-get (between 1 8) (s .widths) (words .0) (width s t) (mem-getD 0 (s .widths) t (omega (arith, c .widths-many))))
 
   room-in : (t : ℕ) → t ≤ s .n → Each (betweenTests 0 4096 (room s t))
   room-in t l =
-      apart (betweenTests 0 4096 (room s t))
+      facts (betweenTests 0 4096 (room s t))
       (all-get (between 0 4096) (s .rooms) (words .1 .1 .1 .1 .1 .0) (room s t) (mem-getD 0 (s .rooms) t (omega (arith, c .rooms-many))))
 
   edge : (e : Edge) → Mem e (s .edges) → Each (edgeTests s e)
   unfolding goodEdge
-  edge e m = apart (edgeTests s e) (all-get (goodEdge s) (s .edges) (words .1 .0) e m)
+  edge e m = facts (edgeTests s e) (all-get (goodEdge s) (s .edges) (words .1 .0) e m)
 
   condition : (d : Condition) → Mem d (s .conditions) → Each (conditionTests s d)
   unfolding goodCondition
-  condition d m = apart (conditionTests s d) (all-get (goodCondition s) (s .conditions) (words .1 .1 .0) d m)
+  condition d m = facts (conditionTests s d) (all-get (goodCondition s) (s .conditions) (words .1 .1 .0) d m)
 
   listed : (l : Listed) → Mem l (s .listed) → Each (listedTests s l)
   unfolding goodListed
-  listed l m = apart (listedTests s l) (all-get (goodListed s) (s .listed) (words .1 .1 .1 .0) l m)
+  listed l m = facts (listedTests s l) (all-get (goodListed s) (s .listed) (words .1 .1 .1 .0) l m)
 
   child-in : (e : Edge) → Mem e (s .edges) → e .child < s .n
   child-in e m = ltb→lt (e .child) (s .n) (edge e m .0)
@@ -115,7 +115,7 @@ module _ (s : Sheet) (c : Counted s) (words-good : T (goodWords s)) (tree-good :
   -- the tree
   tree : Each (treeTests s)
   unfolding goodTree
-  tree = apart (treeTests s) tree-good
+  tree = facts (treeTests s) tree-good
 
   one-root : length (select (isRoot s) (tables s)) ≡ 1
   one-root = eqb→≡ (length (select (isRoot s) (tables s))) 1 (tree .0)
@@ -240,9 +240,9 @@ counted ws h =
     let e = at ws 1 in
     let c = at ws 2 in
     let p = at ws 3 in
-    let k = apart (leb 1 n ∷ leb n 8 ∷ eqb (e + 1) n ∷ between 0 16 c ∷ between 1 16 p ∷ eqb (length ws) (4 + 2 * n + 1 + 4 * e + 4 * c + 2 * p) ∷ []) h in
-    let c-in = apart (leb 0 c ∷ leb c 16 ∷ []) (k .1 .1 .1 .0) in
-    let p-in = apart (leb 1 p ∷ leb p 16 ∷ []) (k .1 .1 .1 .1 .0) in
+    let k = facts (leb 1 n ∷ leb n 8 ∷ eqb (e + 1) n ∷ between 0 16 c ∷ between 1 16 p ∷ eqb (length ws) (4 + 2 * n + 1 + 4 * e + 4 * c + 2 * p) ∷ []) h in
+    let c-in = facts (leb 0 c ∷ leb c 16 ∷ []) (k .1 .1 .1 .0) in
+    let p-in = facts (leb 1 p ∷ leb p 16 ∷ []) (k .1 .1 .1 .1 .0) in
     let edges-are : e + 1 ≡ n = eqb→≡ (e + 1) n (k .1 .1 .0) in
     let long : length ws ≡ 4 + 2 * n + 1 + 4 * e + 4 * c + 2 * p = eqb→≡ (length ws) _ (k .1 .1 .1 .1 .1 .0) in
     let c-is : length (sheetOf ws .conditions) ≡ c = length-map (cut 4 c (drop (conditionsAt ws) ws)) conditionOf ∙ cut-length 4 c _ in

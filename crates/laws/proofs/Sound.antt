@@ -14,7 +14,7 @@ use Rattle.rows.specs.Rows.{rising, noKeyTwice}
 use Rattle.meaning.specs.Sheet.{Sheet, tables, room}
 use Rattle.meaning.specs.Plan.{kept, columns, storeLength}
 use Rattle.meaning.specs.Store.{partsOf, count, partWords, rowsAt, soundPart, soundTable, sound}
-use Rattle.laws.proofs.Lists.{Each, apart, together}
+use Rattle.laws.proofs.Lists.{Each, facts, facts-make}
 
 pub record Sound (s : Sheet) (ws : Words) : Type 0 where
   pub long : length ws ≡ storeLength s
@@ -54,13 +54,13 @@ sound-get s ws h =
     }
   where
     tests : Each (storeTests s ws)
-    tests = apart (storeTests s ws) h
+    tests = facts (storeTests s ws) h
 
     of-part : (part : ℕ) → part ≤ s .n → Each (partTests s ws part)
-    of-part part l = apart (partTests s ws part) (all-get (soundPart s ws) (partsOf s) (tests .1 .1 .0) part (mem-upTo (s .n + 1) part (omega arith)))
+    of-part part l = facts (partTests s ws part) (all-get (soundPart s ws) (partsOf s) (tests .1 .1 .0) part (mem-upTo (s .n + 1) part (omega arith)))
 
     of-table : (t : ℕ) → t < s .n → Each (tableTests s ws t)
-    of-table t l = apart (tableTests s ws t) (all-get (soundTable s ws) (tables s) (tests .1 .1 .1 .0) t (mem-upTo (s .n) t l))
+    of-table t l = facts (tableTests s ws t) (all-get (soundTable s ws) (tables s) (tests .1 .1 .1 .0) t (mem-upTo (s .n) t l))
 
 pub sound-make : (s : Sheet) → s .n ≤ 8 → (ws : Words) → Sound s ws → T (sound s ws)
 unfolding sound soundPart soundTable
@@ -68,16 +68,16 @@ sound-make s eight ws h =
     let absent = all-make (isZero ws) (from (s .n) (8 - s .n)) (λ t i.
     let b = from-mem (s .n) (8 - s .n) t i in eq→eqb (h .absent t (b .0) (omega (arith, b .1)))) in
     let parts = all-make (soundPart s ws) (partsOf s) of-part in
-    together (storeTests s ws) (eq→eqb (h .long), (absent, (parts, (all-make (soundTable s ws) (tables s) of-table, tt))))
+    facts-make (storeTests s ws) (eq→eqb (h .long), (absent, (parts, (all-make (soundTable s ws) (tables s) of-table, tt))))
   where
     of-part : (part : ℕ) → Mem part (partsOf s) → T (soundPart s ws part)
     of-part part i =
         let l : part ≤ s .n = omega (arith, upTo-mem (s .n + 1) part i) in
-        together (partTests s ws part) (le→leb (count s ws part) (room s part) (h .within part l), (h .in-order part l, (h .unused part l, tt)))
+        facts-make (partTests s ws part) (le→leb (count s ws part) (room s part) (h .within part l), (h .in-order part l, (h .unused part l, tt)))
 
     of-table : (t : ℕ) → Mem t (tables s) → T (soundTable s ws t)
     of-table t i =
         let l = upTo-mem (s .n) t i in
         let none = eqb (count s ws t) 0 in
-        together (tableTests s ws t)
+        facts-make (tableTests s ws t)
         (⊎-elim (λ k. or-inl (kept s t) none k) (λ k. or-inr (kept s t) none (eq→eqb (h .unkept t l k))) (decided (kept s t)), (h .once t l, tt))

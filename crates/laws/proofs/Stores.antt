@@ -28,7 +28,7 @@ use Rattle.laws.proofs.Keys.{once-sorted, once-map, once-select, wide-m
 use Rattle.laws.proofs.Qualified.{qualifiedOf, qualified-is, side-kept, side-unkept}
 use Rattle.laws.proofs.Ways.{wayRows, list-rising}
 use Rattle.laws.proofs.Meanings.{Lawful, meaning-many, meaning-side, meaning-list}
-use Rattle.laws.proofs.Sound.{Sound, sound-get}
+pub use Rattle.laws.proofs.Sound.{Sound, sound-get}
 use Rattle.laws.proofs.Models.{part-side, by-part, Proper, fits-make}
 
 -- where a part begins, and that it ends within the store

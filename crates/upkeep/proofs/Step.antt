@@ -22,7 +22,7 @@ use Rattle.meaning.specs.Base.{Tables, rowsOf, Change, goodChange, hasParents, 
 use Rattle.meaning.specs.Meaning.{Model, meaning}
 use Rattle.meaning.specs.Change.{insertEffect, effect, after, newKey, oldRow, foundShow, agrees}
 use Rattle.meaning.specs.Demands.{waysOf}
-use Rattle.laws.proofs.Lists.{by-set, Each, apart, together}
+use Rattle.laws.proofs.Lists.{by-set, Each, facts, facts-make}
 use Rattle.laws.proofs.Sheets.{Good}
 use Rattle.laws.proofs.Trees.{Promised, parent-other}
 use Rattle.laws.proofs.Keys.{has-mem, key-mem, take-mem, once-cons, once-same, once-take, key-gone, key-stays}
@@ -208,7 +208,7 @@ module _ (s : Sheet) (g : Good s) (B : Tables) (law : Lawful s B) (R : ℕ) (ins
           let once = old-once (r ∷ []) rest same in
           let moves = update-moves s g (frame rest) r r′ tie once gone in
           step (r ∷ []) rest same (r′ ∷ []) 3 r r′ refl (judges-new s g (frame rest) r r′ tie) moves
-          (together (oldRow s m R r ∷ foundShow s m R r ∷ hasRows (effect s m (made 3 R r r′) .listOut) (m .list) ∷ []) (
+          (facts-make (oldRow s m R r ∷ foundShow s m R r ∷ hasRows (effect s m (made 3 R r r′) .listOut) (m .list) ∷ []) (
             old-row s g (frame rest) r gone,
             (
               update-show s g (frame rest) r r′ tie once gone,
@@ -227,15 +227,15 @@ unfolding lawfulChange tiedStay
 done s g B law c h =
     by-kind s (λ c. T (lawfulChange s B c) → Done s B c)
     (λ t r r′ l e e′ h.
-    let w = apart (goodChange s (made 1 t r r′) ∷ (not (hasKey (key r′) (rowsOf B t)) && hasParents s B t r′) ∷ []) h in
-    let k = apart (not (hasKey (key r′) (rowsOf B t)) ∷ hasParents s B t r′ ∷ []) (w .1 .0) in
+    let w = facts (goodChange s (made 1 t r r′) ∷ (not (hasKey (key r′) (rowsOf B t)) && hasParents s B t r′) ∷ []) h in
+    let k = facts (not (hasKey (key r′) (rowsOf B t)) ∷ hasParents s B t r′ ∷ []) (w .1 .0) in
     insert-done s g B law t l r r′ e e′ (not→F (hasKey (key r′) (rowsOf B t)) (k .0)) (parents-get s B t r′ (k .1 .0)))
     (λ t r r′ l e e′ h.
-    let w = apart (goodChange s (made 2 t r r′) ∷ (hasRow r (rowsOf B t) && not (hasPromisedChild s B t (key r))) ∷ []) h in
-    let k = apart (hasRow r (rowsOf B t) ∷ not (hasPromisedChild s B t (key r)) ∷ []) (w .1 .0) in
+    let w = facts (goodChange s (made 2 t r r′) ∷ (hasRow r (rowsOf B t) && not (hasPromisedChild s B t (key r))) ∷ []) h in
+    let k = facts (hasRow r (rowsOf B t) ∷ not (hasPromisedChild s B t (key r)) ∷ []) (w .1 .0) in
     delete-done s g B law t l r (k .0) r′ e′ (not→F (hasPromisedChild s B t (key r)) (k .1 .0)))
     (λ t r r′ l e e′ q h.
-    let w = apart (goodChange s (made 3 t r r′) ∷ (hasRow r (rowsOf B t) && sameTied s t r r′) ∷ []) h in
-    let k = apart (hasRow r (rowsOf B t) ∷ sameTied s t r r′ ∷ []) (w .1 .0) in
+    let w = facts (goodChange s (made 3 t r r′) ∷ (hasRow r (rowsOf B t) && sameTied s t r r′) ∷ []) h in
+    let k = facts (hasRow r (rowsOf B t) ∷ sameTied s t r r′ ∷ []) (w .1 .0) in
     update-done s g B law t l r (k .0) r′ e′ (tied-get s g t r r′ q (k .1 .0)))
     c (lawful-good s B c h) h
