@@ -1,5 +1,5 @@
 -- Laws of lists and tests that the other files use: cases on a place, tests taken apart and put together, `Mem` and `any` through maps and
--- selections, and the front of a sum.
+-- selections, the ends of a sum, blocks of a run, and zeros.
 -- Assumes nothing.
 use Prim.Native.Nat.{ℕ, zero, suc, _+_, _<_, _≤_}
 use mathlib.Core.Path.{_≡_, refl, sym, ap, ap₂, _∙_, subst}

@@ -1,5 +1,4 @@
--- Sound stores: the model of a sound store is proper and fits, and the store is that model's words. And so is the meaning of lawful base tables
--- that fit.
+-- Sound stores: the model of a sound store is proper and fits, and its words are the store again. The meaning of lawful base tables is proper too.
 -- Assumes nothing.
 use Prim.Native.Nat.{ℕ, suc, _+_, _*_, _-_, _<_, _≤_}
 use mathlib.Core.Path.{_≡_, refl, sym, ap, ap₂, _∙_, subst}

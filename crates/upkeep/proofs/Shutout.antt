@@ -1,6 +1,6 @@
--- Document 01, "How much the contracts must say": the versions of the calls that must be shut out, each sentence in one field or two. A version meets
--- the contracts if its outcomes are those of the definitions; then it is none of these. The demands say more (`counted` is demand 3 for one call); what
--- is computed here, on a sheet of one table, is that what they ask of is there.
+-- Document 01, "How much the contracts must say": the versions of the calls that must be shut out, each sentence in a few fields. A version meets the
+-- contracts if its outcomes are those of the definitions; then it is none of these. `fill-accepts`, `change-accepts` and `counted` are demands 2 and 3
+-- for one call; the other fields are computed on a sheet of one table.
 -- Assumes nothing.
 use Prim.Native.Nat.{ℕ}
 use mathlib.Core.Path.{_≡_, refl, sym, ap, _∙_, subst}
@@ -21,8 +21,9 @@ use Rattle.meaning.specs.Meaning.{meets, qualified, sideTable, joins, holds, wa
 use Rattle.meaning.specs.Store.{counts, storeOf, partWords, rowsAt, modelOf, soundPart, soundTable, sound, fits}
 use Rattle.meaning.specs.Change.{widened, wideSides, canTake, waysThrough, rowsThrough, sideRow, insertEffect, deleteEffect, effect, after, newKey, oldRow, agrees, modelAfter, changeRefusal, accepted, change}
 use Rattle.meaning.specs.Fill.{fillRefusal, filled, fill}
-use Rattle.meaning.specs.Demands.{Refused, waysOf, outgrows}
+use Rattle.meaning.specs.Demands.{Refused, Filled, waysOf, outgrows}
 use Rattle.laws.proofs.Changes.{made}
+use Rattle.upkeep.proofs.Second.{demand2}
 use Rattle.upkeep.proofs.Third.{zero-or, demand3}
 
 pub record Version : Type 0 where
@@ -43,7 +44,10 @@ abbrev pub changedSecond : Version → Words → Words → Words → Change → 
 changedSecond v sheet store run c d = v .changing sheet (changedFirst v sheet store run c .words) d
 
 pub record ShutOut (v : Version) : Type 0 where
-  -- "a version that always refuses": and a lawful change is refused for room only
+  -- "a version that always refuses": a fill that demand 2 speaks of is accepted, and a lawful change is refused for room only
+  pub fill-accepts : (sheet store run : Words) → sheetRefusal sheet ≡ 0 → length store ≡ storeLength (sheetOf sheet)
+      → T (goodBase (sheetOf sheet) run) → T (fits (sheetOf sheet) (meaning (sheetOf sheet) (baseOf (sheetOf sheet) run)))
+      → Filled sheet run (v .filling sheet store run)
   pub fill-refuses : ((sheet store run : Words) → Refused (v .filling sheet store run .number)) → ⊥
   pub change-refuses : ((sheet store : Words) (c : Change) → Refused (v .changing sheet store c .number)) → ⊥
   pub change-accepts : (sheet store run : Words) (c : Change) → v .filling sheet store run .number ≡ 0
@@ -157,6 +161,7 @@ theirs : ShutOut definitions
 unfolding definitions store store-one store-two
 theirs =
     record {
+      fill-accepts = demand2 .fills;
       fill-refuses = λ h. h (sheet 2) old none (seen .fill-none);
       change-refuses = λ h. h (sheet 2) store first (seen .first-accepted);
       change-accepts = λ sheet store run c f l n.
