@@ -6,15 +6,16 @@ use mathlib.Core.Bool.{Bool, true, false, cond, not}
 use mathlib.Core.List.{List, [], _∷_, _++_}
 use mathlib.Core.Logic.{_⊎_, inl, inr}
 use lib.Dec.{T, eqb}
-use lib.ListN.{drop}
+use lib.ListN.{length, drop}
 use Rattle.lists.specs.Lists.{Words, all}
 use Rattle.lists.proofs.Truth.{isT, eq→eqb, eqb→≡, cond-true, cond-false, and-fst, and-snd, not→F}
 use Rattle.meaning.specs.Answers.{unless, _orElse_, refused}
 use Rattle.meaning.specs.Sheet.{sheetOf, goodCounts, goodWords, goodTree, sheetRefusal}
-use Rattle.meaning.specs.Plan.{goodPlan, noPlan, plan}
-use Rattle.meaning.specs.Base.{Change}
-use Rattle.meaning.specs.Store.{showRefusal, stretchOf, show}
-use Rattle.meaning.specs.Change.{changeRefusal, accepted, change}
+use Rattle.meaning.specs.Plan.{storeLength, goodPlan, noPlan, plan}
+use Rattle.meaning.specs.Base.{Change, goodChange, tiedStay, baseOf, goodBase}
+use Rattle.meaning.specs.Store.{modelOf, sound, fits, showRefusal, stretchOf, show}
+use Rattle.meaning.specs.Meaning.{meaning}
+use Rattle.meaning.specs.Change.{modelAfter, agrees, changeRefusal, accepted, change}
 use Rattle.meaning.specs.Fill.{fillRefusal, filled, fill}
 use Rattle.meaning.specs.Demands.{Refused, Test, test, First, sheetTests, changeTests, fillTests, showTests}
 
@@ -101,8 +102,29 @@ change-first sheet store c =
     subst (First (changeTests sheet store c)) (sym (change-number sheet store c ∙ sheet-chain sheet (drop 3 (changeTests sheet store c))))
     (first-of (changeTests sheet store c))
 
-pub change-passed : (sheet store : Words) (c : Change) → change sheet store c .number ≡ 0 → Passed (changeTests sheet store c)
-change-passed sheet store c e = first-zero (changeTests sheet store c) tt _ (change-first sheet store c) e
+-- what an accepted change has passed
+pub record ChangePassed (sheet store : Words) (c : Change) : Type 0 where
+  pub of-sheet : Passed (sheetTests sheet)
+  pub long : length store ≡ storeLength (sheetOf sheet)
+  pub good : T (goodChange (sheetOf sheet) c)
+  pub tied-stay : T (tiedStay (sheetOf sheet) c)
+  pub is-sound : T (sound (sheetOf sheet) store)
+  pub agree : T (agrees (sheetOf sheet) (modelOf (sheetOf sheet) store) c)
+  pub fit : T (fits (sheetOf sheet) (modelAfter (sheetOf sheet) store c))
+
+pub change-passed : (sheet store : Words) (c : Change) → change sheet store c .number ≡ 0 → ChangePassed sheet store c
+change-passed sheet store c e =
+    let p = first-zero (changeTests sheet store c) tt _ (change-first sheet store c) e in
+    let q = p .1 .1 .1 in
+    record {
+      of-sheet = (p .0, (p .1 .0, (p .1 .1 .0, tt)));
+      long = eqb→≡ (length store) (storeLength (sheetOf sheet)) (q .0);
+      good = q .1 .0;
+      tied-stay = q .1 .1 .0;
+      is-sound = q .1 .1 .1 .0;
+      agree = q .1 .1 .1 .1 .0;
+      fit = q .1 .1 .1 .1 .1 .0;
+    }
 
 pub change-accepted : (sheet store : Words) (c : Change) → change sheet store c .number ≡ 0 → change sheet store c ≡ accepted (sheetOf sheet) store c
 unfolding change
@@ -126,8 +148,23 @@ fill-first sheet store run =
     subst (First (fillTests sheet store run)) (sym (fill-number sheet store run ∙ sheet-chain sheet (drop 3 (fillTests sheet store run))))
     (first-of (fillTests sheet store run))
 
-pub fill-passed : (sheet store run : Words) → fill sheet store run .number ≡ 0 → Passed (fillTests sheet store run)
-fill-passed sheet store run e = first-zero (fillTests sheet store run) tt _ (fill-first sheet store run) e
+-- what an accepted fill has passed
+pub record FillPassed (sheet store run : Words) : Type 0 where
+  pub of-sheet : Passed (sheetTests sheet)
+  pub long : length store ≡ storeLength (sheetOf sheet)
+  pub base : T (goodBase (sheetOf sheet) run)
+  pub fit : T (fits (sheetOf sheet) (meaning (sheetOf sheet) (baseOf (sheetOf sheet) run)))
+
+pub fill-passed : (sheet store run : Words) → fill sheet store run .number ≡ 0 → FillPassed sheet store run
+fill-passed sheet store run e =
+    let p = first-zero (fillTests sheet store run) tt _ (fill-first sheet store run) e in
+    let q = p .1 .1 .1 in
+    record {
+      of-sheet = (p .0, (p .1 .0, (p .1 .1 .0, tt)));
+      long = eqb→≡ (length store) (storeLength (sheetOf sheet)) (q .0);
+      base = q .1 .0;
+      fit = q .1 .1 .0;
+    }
 
 pub fill-accepted : (sheet store run : Words) → fill sheet store run .number ≡ 0 → fill sheet store run ≡ filled (sheetOf sheet) run
 unfolding fill

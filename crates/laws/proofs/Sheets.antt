@@ -261,8 +261,8 @@ counted ws h =
 pub sheet-passed : (ws : Words) → sheetRefusal ws ≡ 0 → Passed (sheetTests ws)
 sheet-passed ws e = first-zero (sheetTests ws) tt _ (sheet-first ws) e
 
-pub good-tests : (ws : Words) → T (goodCounts ws) → T (goodWords (sheetOf ws)) → T (goodTree (sheetOf ws)) → Good (sheetOf ws)
-good-tests ws a b c = tested-good (sheetOf ws) (counted ws a) b c
+pub good-passed : (ws : Words) → Passed (sheetTests ws) → Good (sheetOf ws)
+good-passed ws p = tested-good (sheetOf ws) (counted ws (p .0)) (p .1 .0) (p .1 .1 .0)
 
 pub good-sheet : (ws : Words) → sheetRefusal ws ≡ 0 → Good (sheetOf ws)
-good-sheet ws e = let p = sheet-passed ws e in good-tests ws (p .0) (p .1 .0) (p .1 .1 .0)
+good-sheet ws e = good-passed ws (sheet-passed ws e)

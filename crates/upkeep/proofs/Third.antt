@@ -22,7 +22,7 @@ use Rattle.meaning.specs.Fill.{filled, fill}
 use Rattle.meaning.specs.Demands.{Refused, test, First, sheetTests, changeTests, outgrows, baseAfter, Right, AllRight, Demand3}
 use Rattle.laws.proofs.Lists.{here-or}
 use Rattle.laws.proofs.Numbers.{Passed, first-past, change-first, change-passed, change-accepted, change-refused, fill-passed, fill-accepted}
-use Rattle.laws.proofs.Sheets.{Good, good-tests}
+use Rattle.laws.proofs.Sheets.{Good, good-passed}
 use Rattle.laws.proofs.Meanings.{Lawful, base-lawful, meaning-many, meaning-side, meaning-list}
 use Rattle.laws.proofs.Models.{part-side, by-part, Proper, fits-get, fits-make, model-back, store-long, store-sound}
 use Rattle.laws.proofs.Stores.{meaning-proper}
@@ -52,7 +52,7 @@ module _ (sheet : Words) (p : Passed (sheetTests sheet)) where
   s = sheetOf sheet
 
   g : Good s
-  g = good-tests sheet (p .0) (p .1 .0) (p .1 .1 .0)
+  g = good-passed sheet p
 
   module _ (B : Tables) (ws : Words) (holds : Holds s B ws) (c : Change) where
     abbrev number : ℕ
@@ -93,7 +93,7 @@ module _ (sheet : Words) (p : Passed (sheetTests sheet)) where
       new-holds e =
           record {
             law = is .law;
-            fit = subst (λ (m : Model). T (fits s m)) after-is (change-passed sheet ws c e .1 .1 .1 .1 .1 .1 .1 .1 .0);
+            fit = subst (λ (m : Model). T (fits s m)) after-is (change-passed sheet ws c e .fit);
             words = ap (λ o. o .words) (change-accepted sheet ws c e) ∙ ap (storeOf s) after-is;
           }
 
@@ -153,8 +153,8 @@ unfolding filled
 fill-holds sheet store run e =
     let p = fill-passed sheet store run e in
     record {
-      law = base-lawful (sheetOf sheet) run (p .1 .1 .1 .1 .0);
-      fit = p .1 .1 .1 .1 .1 .0;
+      law = base-lawful (sheetOf sheet) run (p .base);
+      fit = p .fit;
       words = ap (λ o. o .words) (fill-accepted sheet store run e);
     }
 
@@ -167,15 +167,14 @@ stays sheet store c t l d =
     zero-or (rowsAt s (change sheet store c .words) t ≡ rowsAt s store t) (change sheet store c .number)
     (λ e. let p = change-passed sheet store c e in
     ap (λ o. rowsAt s (o .words) t) (change-accepted sheet store c e)
-    ∙ others-stay s (good-tests sheet (p .0) (p .1 .0) (p .1 .1 .0)) store c (p .1 .1 .1 .1 .1 .1 .0) (p .1 .1 .1 .1 .0) (p .1 .1 .1 .1 .1 .1 .1 .0)
-    (p .1 .1 .1 .1 .1 .1 .1 .1 .0) t l d)
+    ∙ others-stay s (good-passed sheet (p .of-sheet)) store c (p .is-sound) (p .good) (p .agree) (p .fit) t l d)
     (λ r. ap (λ o. rowsAt s (o .words) t) (change-refused sheet store c r))
 
 pub demand3 : Demand3
 demand3 =
     record {
       right = λ sheet store run e changes.
-          let p = fill-passed sheet store run e in
-          all-right sheet (p .0, (p .1 .0, (p .1 .1 .0, tt))) changes (baseOf (sheetOf sheet) run) (fill sheet store run .words) (fill-holds sheet store run e);
+          all-right sheet (fill-passed sheet store run e .of-sheet) changes (baseOf (sheetOf sheet) run) (fill sheet store run .words)
+          (fill-holds sheet store run e);
       others-stay = stays;
     }
