@@ -157,7 +157,7 @@ module _ (w i b : ℕ) (s : Words) where
       let up : drop (suc i) (cut w (i + suc b) s) ≡ cut w b above = (let j : i + suc b ≡ suc i + b = omega arith in rw (j, drop-cut w (suc i) b s, k)) in
       rw (cut-split w i b (take f s ++ tail), front, back, rest, take-cut w i (suc b) s, up)
 
-cut-put : (w n i : ℕ) (r : Row) (s : Words) → i ≤ n → n * w ≤ length s → length r ≡ w → cut w (suc n) (putWords w n i r s) ≡ putAt i r (cut w n s)
+pub cut-put : (w n i : ℕ) (r : Row) (s : Words) → i ≤ n → n * w ≤ length s → length r ≡ w → cut w (suc n) (putWords w n i r s) ≡ putAt i r (cut w n s)
 cut-put w n i r s h fits len =
     let e : i + (n - i) ≡ n = omega arith in
     let e′ : i + suc (n - i) ≡ suc n = omega arith in
@@ -174,7 +174,7 @@ module _ (w n i : ℕ) (r : Row) (s : Words) (h : i * w ≤ n * w) (fits : n * w
   unfolding putWords
   put-length = simp (length-append, length-take, length-drop) (omega arith)
 
-  put-behind : drop (n * w + w) (putWords w n i r s) ≡ drop (n * w + w) s
+  pub put-behind : drop (n * w + w) (putWords w n i r s) ≡ drop (n * w + w) s
   unfolding putWords
   put-behind =
       let head : Words = take (i * w) s ++ (r ++ take (n * w - i * w) (drop (i * w) s)) in
