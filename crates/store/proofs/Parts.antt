@@ -1,0 +1,54 @@
+-- A part of the store, as code knows it: what a function of `rows` asks of it when it is lent, and what it leaves in the whole store.
+-- Assumes nothing.
+use Prim.Native.Nat.{ℕ, _+_, _-_, _*_, _<_, _≤_}
+use mathlib.Core.Path.{_≡_, refl, sym, ap, ap₂, _∙_, subst}
+use native.Mathlib.Omega.{arith}
+use native.Mathlib.Nat.{le-refl}
+use lib.ListN.{length, getD, take, drop, set}
+use lib.Seq.{set-getD}
+use borrow.Rule.Slice.PartMut.{putMid}
+use Rattle.lists.specs.Lists.{Words}
+use Rattle.lists.specs.Parts.{part, splice}
+use Rattle.lists.proofs.Parts.{put-back, length-part}
+use Rattle.rows.specs.Rows.{Rows}
+use Rattle.rows.specs.Regions.{laid, Region, Holds}
+use Rattle.rows.proofs.Cut.{row-fits}
+use Rattle.rows.proofs.Regions.{holds-count}
+use Rattle.places.proofs.Splices.{at-splice}
+use Rattle.store.specs.declared.Part.{Part}
+use Rattle.store.specs.Parts.{sizeOf, stopOf, wordsIn, countIn, rowsIn, Within, Kept, withRows, Wrote}
+
+module _ (p : Part) (ws : Words) (k : Kept p ws) where
+  pub words-length : length (wordsIn p ws) ≡ sizeOf p
+  unfolding wordsIn
+  words-length = length-part ws (p .start) (stopOf p) (k .within .ends) ∙ omega arith
+
+  -- one row more has room
+  pub one-more : countIn p ws < p .room → countIn p ws * p .columns + p .columns ≤ length (wordsIn p ws)
+  one-more l = row-fits (p .columns) (p .room) (countIn p ws) (length (wordsIn p ws)) l (omega (arith, words-length))
+
+  -- what a lent part leaves, when it is back and its count is set
+  pub wrote : (rows : Rows) (n : ℕ) (x : Words) → Holds (p .columns) n rows x → length x ≡ length (wordsIn p ws)
+      → Wrote p rows ws (set (putMid (p .start) (stopOf p - p .start) ws x) (p .slot) n)
+  unfolding withRows
+  wrote rows n x h e =
+      let long : length x ≡ sizeOf p = e ∙ words-length in
+      let is : x ≡ laid (sizeOf p) rows = h .words ∙ ap (λ (j : ℕ). laid j rows) long in
+      let many : n ≡ length rows = sym (holds-count (p .columns) n rows x h) in
+      record {
+        words = ap₂ (λ (y : Words) (j : ℕ). set y (p .slot) j) (put-back ws (p .start) (stopOf p) x (laid (sizeOf p) rows) (omega arith) is) many;
+        long = ap length (sym is) ∙ long;
+        held = rw (is, many) at h;
+      }
+
+  -- and where its count stays
+  pub wrote-as-many : (rows : Rows) (x : Words) → Holds (p .columns) (countIn p ws) rows x → length x ≡ length (wordsIn p ws)
+      → Wrote p rows ws (putMid (p .start) (stopOf p - p .start) ws x)
+  wrote-as-many rows x h e =
+      let back = put-back ws (p .start) (stopOf p) x x (omega arith) refl in
+      let counted : getD (putMid (p .start) (stopOf p - p .start) ws x) (p .slot) 0 ≡ countIn p ws =
+      ap (λ (y : Words). getD y (p .slot) 0) back
+      ∙ at-splice ws (p .start) (stopOf p) x (omega arith) (k .within .ends) (p .slot) (omega (arith, k .within .counted, k .within .behind)) in
+      subst (Wrote p rows ws)
+      (ap (set (putMid (p .start) (stopOf p - p .start) ws x) (p .slot)) (sym counted) ∙ set-getD (putMid (p .start) (stopOf p - p .start) ws x) (p .slot) 0)
+      (wrote rows (countIn p ws) x h e)
