@@ -1,10 +1,9 @@
 -- Worked texts of a sheet.
 -- Assumes nothing.
-use Prim.Native.Nat.{ℕ}
 use mathlib.Core.Path.{_≡_, refl}
-use mathlib.Core.List.{List, [], _∷_}
+use mathlib.Core.List.{[], _∷_}
 use Rattle.text.specs.Ascii.{ascii}
-use Rattle.text.specs.Reading.{Text, isBlank, isDigit, onward, value, before, pieces, isSome, decimals, isNumber, Reading, says, isnt, readText}
+use Rattle.text.specs.Reading.{isBlank, isDigit, onward, value, before, pieces, isSome, decimals, isNumber, says, isnt, readText}
 
 pub blanks : readText (ascii " \n007  12\n\n") ≡ says (7 ∷ 12 ∷ [])
 unfolding isBlank isDigit onward value before pieces isSome decimals isNumber readText
