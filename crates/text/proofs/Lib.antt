@@ -1,3 +1,5 @@
 pub mod Bytes
 pub mod Texts
 pub mod Lengths
+pub mod Writes
+pub mod Sets

@@ -1,6 +1,7 @@
 -- What the program answers to a text: the plan of the words that it says; "text that isn't such numbers, or too large for 64 bits: 1".
 -- Assumes nothing.
 use Rattle.meaning.specs.Plan.{Plan, plan, noPlan}
+use Rattle.text.specs.Printing.{planText}
 use Rattle.text.specs.Reading.{Text, Reading, says, isnt, readText}
 
 abbrev pub planFor : Reading → Plan
@@ -9,3 +10,7 @@ planFor isnt = noPlan 1
 
 unfoldable pub planOfText : Text → Plan
 planOfText text = planFor (readText text)
+
+-- what the program prints for a text
+unfoldable pub printed : Text → Text
+printed text = planText (planOfText text)

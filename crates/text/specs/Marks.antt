@@ -1,0 +1,16 @@
+-- stand-in
+-- Assumes nothing.
+use Prim.Native.Nat.{ℕ, _+_, _*_}
+use mathlib.Core.Bool.{Bool}
+use mathlib.Core.List.{List}
+use lib.Dec.{eqb}
+use lib.ListN.{getD}
+use Rattle.lists.specs.Lists.{select, upTo}
+
+-- c is marked in row t
+unfoldable pub marked : List ℕ → ℕ → ℕ → Bool
+marked marks t c = eqb (getD marks (8 * t + c) 0) 1
+
+-- the marked numbers of row t, rising
+unfoldable pub markedIn : List ℕ → ℕ → List ℕ
+markedIn marks t = select (marked marks t) (upTo 8)
