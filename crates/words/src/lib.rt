@@ -63,7 +63,7 @@ fn words_within(sheet: &[u64], at: usize, k: usize, low: u64, high: u64) -> bool
 }
 
 // Whether table t has a column of this number.
-fn has_column(sheet: &[u64], t: u64, column: u64) -> bool
+pub fn has_column(sheet: &[u64], t: u64, column: u64) -> bool
     requires { ⌜ Counts (now sheet) ⌝ }
     ensures { λ b. ⌜ b ≡ hasColumn (sheetOf (now (sheet .entry))) t column ⌝ }
 {

@@ -1,0 +1,70 @@
+-- The marks of the shown columns, and the columns they stand for.
+-- Assumes nothing.
+use Prim.Native.Nat.{ℕ, _+_, _*_, _/_, _%_, _<_, _≤_}
+use mathlib.Core.Path.{_≡_, refl, sym, ap, _∙_}
+use mathlib.Core.Bool.{Bool, true, false, _&&_}
+use mathlib.Core.List.{List}
+use native.Mathlib.Omega.{arith}
+use lib.Dec.{eqb, ltb}
+use lib.ListN.{length, take, drop, replicate, length-take, List·getD-eq-default}
+use borrow.Author.Tests.{le-ltb, ltb-true, ltb-false}
+use Rattle.lists.specs.Lists.{Words, at, upTo}
+use Rattle.lists.specs.Totals.{one}
+use Rattle.lists.proofs.Truth.{upTo-mem, select-same}
+use Rattle.lists.proofs.Loops.{getD-filled}
+use Rattle.meaning.specs.Sheet.{sheetOf, width, hasColumn}
+use Rattle.meaning.specs.Plan.{isShown, shown}
+use Rattle.words.specs.Rules.{Rules}
+use Rattle.words.proofs.Words.{n-is, width-is}
+use Rattle.layout.specs.Marks.{marked, markedIn, markedAt, listsOf}
+use Rattle.layout.specs.Plans.{showsAt, showsOf, shownAt, shownOf}
+use Rattle.layout.proofs.Chosen.{select-narrow, filled-same}
+
+-- a mark is 1 exactly if the test is passed
+one-is : (b : Bool) → eqb (one b) 1 ≡ b
+one-is true = refl
+one-is false = refl
+
+module _ (ws : Words) (r : Rules ws) where
+  -- a table that is not there has no columns
+  pub width-past : (t : ℕ) → at ws 0 ≤ t → width (sheetOf ws) t ≡ 0
+  unfolding sheetOf
+  width-past t h =
+      let l : length (take (at ws 0) (drop 4 ws)) ≤ t = simp length-take (omega arith) in
+      List·getD-eq-default (take (at ws 0) (drop 4 ws)) 0 l
+
+  pub width-small : (t : ℕ) → width (sheetOf ws) t ≤ 8
+  width-small t = go (ltb t (at ws 0)) refl
+    where
+      go : (b : Bool) → ltb t (at ws 0) ≡ b → width (sheetOf ws) t ≤ 8
+      go true e = let l = ltb-true t (at ws 0) e in omega (arith, width-is ws t l, r .widths t l .high)
+      go false e = omega (arith, width-past t (ltb-false t (at ws 0) e))
+
+  pub has-column : (t c : ℕ) → hasColumn (sheetOf ws) t c ≡ ltb c (width (sheetOf ws) t)
+  has-column t c = go (ltb t (at ws 0)) refl
+    where
+      go : (b : Bool) → ltb t (at ws 0) ≡ b → hasColumn (sheetOf ws) t c ≡ ltb c (width (sheetOf ws) t)
+      go true e = ap (λ (b : Bool). b && ltb c (width (sheetOf ws) t)) (ap (ltb t) (n-is ws) ∙ e)
+      go false e =
+          ap (λ (b : Bool). b && ltb c (width (sheetOf ws) t)) (ap (ltb t) (n-is ws) ∙ e)
+          ∙ sym (le-ltb c (width (sheetOf ws) t) (omega (arith, width-past t (ltb-false t (at ws 0) e))))
+
+  -- the marks of table t
+  pub marked-shows : (t c : ℕ) → t < 8 → c < 8 → marked (showsOf (sheetOf ws)) t c ≡ (ltb c (width (sheetOf ws) t) && isShown (sheetOf ws) t c)
+  unfolding marked showsOf showsAt
+  marked-shows t c h l =
+      let q : (8 * t + c) / 8 ≡ t = omega arith in
+      let m : (8 * t + c) % 8 ≡ c = omega arith in
+      rw (getD-filled (showsAt (sheetOf ws)) 64 (8 * t + c) 0 (replicate 64 0) (omega arith) (omega arith), q, m, one-is, has-column t c)
+
+  pub marked-columns : (t : ℕ) → t < 8 → markedIn (showsOf (sheetOf ws)) t ≡ shown (sheetOf ws) t
+  unfolding markedIn shown
+  marked-columns t h =
+      select-same (marked (showsOf (sheetOf ws)) t) (λ c. ltb c (width (sheetOf ws) t) && isShown (sheetOf ws) t c) (upTo 8) (λ c m. marked-shows t c h (upTo-mem 8 c m))
+      ∙ select-narrow (isShown (sheetOf ws) t) (width (sheetOf ws) t) 8 (width-small t)
+
+  pub lists-shown : listsOf (showsOf (sheetOf ws)) ≡ shownOf (sheetOf ws)
+  unfolding listsOf shownOf shownAt markedAt
+  lists-shown =
+      filled-same (λ i. at (markedIn (showsOf (sheetOf ws)) (i / 8)) (i % 8)) (λ i. at (shown (sheetOf ws) (i / 8)) (i % 8)) 64 (replicate 64 0)
+      (λ i l. ap (λ (cs : List ℕ). at cs (i % 8)) (marked-columns (i / 8) (omega arith)))

@@ -1,0 +1,87 @@
+-- The ways through the functions that fill the arrays, said of words and numbers.
+-- Assumes nothing.
+use Prim.Native.Nat.{ℕ, _+_, _*_, _/_, _%_, _<_, _≤_}
+use mathlib.Core.Path.{_≡_, sym, ap, _∙_}
+use mathlib.Core.Bool.{Bool, true, false}
+use mathlib.Core.List.{List}
+use native.Mathlib.Omega.{arith}
+use lib.ListN.{getD}
+use borrow.Author.Tests.{eq-eqb, ne-eqb}
+use Rattle.lists.specs.Lists.{Words, at}
+use Rattle.lists.specs.Totals.{one}
+use Rattle.lists.specs.Loops.{filled}
+use Rattle.lists.proofs.Loops.{filled-end}
+use Rattle.meaning.specs.Sheet.{sheetOf, hasColumn}
+use Rattle.meaning.specs.Plan.{storeLength}
+use Rattle.meaning.specs.Plan as Meant
+use Rattle.words.specs.Rules.{Rules}
+use Rattle.sheet.specs.Verdicts.{verdictOf}
+use Rattle.sheet.specs.declared.Verdict.{Verdict}
+use Rattle.sheet.specs.declared.Verdict.the-variants.{Good, Refused}
+use Rattle.words.specs.Counted.{counted}
+use Rattle.words.proofs.Words.{n-is}
+use Rattle.derive.specs.Derived.{shownNo}
+use Rattle.layout.specs.Marks.{marked, markedIn, markedAt, listsOf}
+use Rattle.layout.specs.Plans.{keptOf, showsAt, showsOf, columnsOf, roomsOf, startsOf, depOf, needOf, planFor, emptyPlan, checkedOf}
+use Rattle.layout.specs.declared.Plan.{Plan}
+use Rattle.layout.specs.declared.Checked.{Checked}
+use Rattle.layout.proofs.Shown.{lists-shown}
+use Rattle.layout.proofs.Chosen.{chosen-at, chosen-past}
+
+-- a loop over the tables, or over the parts, has come to its end
+pub tables-end : (f : ℕ → ℕ) (ws : Words) (k : ℕ) (d a : List ℕ) → k ≤ at ws 0 → at ws 0 ≤ k → a ≡ filled f k d → a ≡ filled f (sheetOf ws .n) d
+tables-end f ws k d a h l e = filled-end f k (at ws 0) d a h l e ∙ ap (λ (n : ℕ). filled f n d) (sym (n-is ws))
+
+pub parts-end : (f : ℕ → ℕ) (ws : Words) (k : ℕ) (d a : List ℕ) → k ≤ at ws 0 + 1 → at ws 0 + 1 ≤ k → a ≡ filled f k d → a ≡ filled f (sheetOf ws .n + 1) d
+parts-end f ws k d a h l e = filled-end f k (at ws 0 + 1) d a h l e ∙ ap (λ (n : ℕ). filled f (n + 1) d) (sym (n-is ws))
+
+pub shows-none : (ws : Words) (i : ℕ) → hasColumn (sheetOf ws) (i / 8) (i % 8) ≡ false → 0 ≡ showsAt (sheetOf ws) i
+unfolding showsAt
+shows-none ws i h = rw h
+
+pub shows-mark : (ws : Words) (i v : ℕ) (b : Bool) → hasColumn (sheetOf ws) (i / 8) (i % 8) ≡ true → b ≡ shownNo ws (i / 8) (i % 8) → v ≡ one b
+    → v ≡ showsAt (sheetOf ws) i
+unfolding showsAt shownNo
+shows-mark ws i v b h e m = rw h (m ∙ ap one e)
+
+module _ (marks : List ℕ) (t : ℕ) where
+  pub marked-yes : (c : ℕ) → getD marks (8 * t + c) 0 ≡ 1 → marked marks t c ≡ true
+  unfolding marked
+  marked-yes c h = eq-eqb _ _ h
+
+  pub marked-no : (c : ℕ) → (getD marks (8 * t + c) 0 ≡ 1 → ⊥) → marked marks t c ≡ false
+  unfolding marked
+  marked-no c h = ne-eqb _ _ h
+
+  -- number j, and none past the last
+  pub marked-found : (j c many : ℕ) → many ≡ counted (marked marks t) c → c < 8 → many ≡ j → getD marks (8 * t + c) 0 ≡ 1 → c ≡ markedAt marks t j
+  unfolding markedAt markedIn
+  marked-found j c many e h q m = sym (chosen-at (marked marks t) 8 c j (sym q ∙ e) h (marked-yes c m))
+
+  pub marked-past : (j many : ℕ) → many ≡ counted (marked marks t) 8 → many ≤ j → 0 ≡ markedAt marks t j
+  unfolding markedAt markedIn
+  marked-past j many e h = sym (chosen-past (marked marks t) 8 j (omega arith))
+
+-- the plan, put together
+pub plan-made : (ws : Words) → Rules ws → (root store : ℕ) (kept shows shown columns rooms starts dep need : List ℕ)
+    → root ≡ Meant.root (sheetOf ws) → store ≡ storeLength (sheetOf ws) → kept ≡ keptOf (sheetOf ws) → shows ≡ showsOf (sheetOf ws) → shown ≡ listsOf shows
+    → columns ≡ columnsOf (sheetOf ws) → rooms ≡ roomsOf (sheetOf ws) → starts ≡ startsOf (sheetOf ws) → dep ≡ depOf (sheetOf ws) → need ≡ needOf (sheetOf ws)
+    → _≡_ {A = Plan}
+    (record { tables = at ws 0; root = root; store = store; kept = kept; shows = shows; shown = shown; columns = columns; rooms = rooms; starts = starts; dep = dep; need = need })
+    (planFor (sheetOf ws))
+unfolding planFor
+plan-made ws r root store kept shows shown columns rooms starts dep need a b c d e f g h i j =
+    let l = lists-shown ws r in
+    let n = n-is ws in
+    cc
+
+-- the two outcomes of the check
+pub check-refused : (ws : Words) (v : Verdict) (k : ℕ) (p : Plan) → v ≡ verdictOf ws → v ≡ Refused k → p ≡ emptyPlan
+    → _≡_ {A = Checked} (record { verdict = v; plan = p }) (checkedOf ws)
+unfolding checkedOf
+check-refused ws v k p e r q = rw (← e, r, q)
+
+pub check-good : (ws : Words) (v : Verdict) (p : Plan) → v ≡ verdictOf ws → v ≡ Good → p ≡ planFor (sheetOf ws)
+    → _≡_ {A = Checked} (record { verdict = v; plan = p }) (checkedOf ws)
+unfolding checkedOf
+check-good ws v p e r q = rw (← e, r, q)

@@ -1,0 +1,25 @@
+-- `need_at` meets its contract.
+-- Assumes nothing.
+use Rattle.layout.proofs.Sizes.{need-none, need-mark}
+use borrow.Author.Needs.{needs}
+use Rattle.layout.proofs.need_at.Statement.{statement}
+use Rattle.layout.proofs.need_at.Tie as tie
+
+shared-slice-read-n : tie.Need-shared-slice-read-n
+shared-slice-read-n c = search needs
+
+returns : tie.Need-returns
+returns c = need-none _ _ (c .if1 .taken)
+
+needs-requires : tie.Need-needs-requires
+needs-requires c κs = search needs
+
+mark-of-requires : tie.Need-mark-of-requires
+mark-of-requires c κs = search needs
+
+returns-2 : tie.Need-returns-2
+returns-2 c = need-mark _ _ _ _ (c .before .before .if1 .left) (c .before .needs .ensures) (c .mark-of .ensures)
+
+pub need-at-spec : {M : Type 1} → statement M
+need-at-spec =
+    tie.close (tie.spec shared-slice-read-n returns needs-requires mark-of-requires returns-2)

@@ -1,0 +1,75 @@
+-- `starts_of` meets its contract. The loop's invariant: the parts before have their places, and `at` is the place of this one.
+-- Assumes nothing.
+use Prim.Native.Nat.{_≤_, _-_}
+use mathlib.Core.Path.{_≡_, refl, sym}
+use lib.ListN.{replicate}
+use Rattle.lists.specs.Loops.{filled}
+use Rattle.lists.proofs.Loops.{filled-more}
+use Rattle.meaning.specs.Sheet.{sheetOf}
+use Rattle.meaning.specs.Plan.{start}
+use Rattle.layout.specs.Plans.{startsOf}
+use Rattle.layout.proofs.Sizes.{start-first, start-more, start-small}
+use Rattle.layout.proofs.Steps.{parts-end}
+use borrow.Author.Needs.{needs}
+use native.Mathlib.Omega.{arith}
+use Rattle.layout.proofs.starts_of.Statement.{statement}
+use Rattle.layout.proofs.starts_of.Tie as tie
+
+abbrev Inv-loop : tie.InvT-loop
+Inv-loop sheet rooms columns m r₀ at₀ part₀ r at part = (part ≤ m) × ((r ≡ filled (start (sheetOf sheet)) part (replicate 9 0)) × (at ≡ start (sheetOf sheet) part))
+
+abbrev μ-loop : tie.MeasureT-loop
+μ-loop sheet rooms columns m r₀ at₀ part₀ r at part = m - part
+
+shared-slice-read-m : tie.Need-shared-slice-read-m Inv-loop μ-loop
+shared-slice-read-m c = search needs
+
+add-m : tie.Need-add-m Inv-loop μ-loop
+add-m c = search needs
+
+loop-holds : tie.Need-loop-holds Inv-loop μ-loop
+unfolding filled
+loop-holds c = (omega arith, (refl, sym (start-first _)))
+
+mul-r : tie.Need-mul-r Inv-loop μ-loop
+mul-r c = search needs
+
+array-write-r : tie.Need-array-write-r Inv-loop μ-loop
+array-write-r c = search needs
+
+size-of-requires : tie.Need-size-of-requires Inv-loop μ-loop
+size-of-requires c κs = (c .before .before .before .before .pre .0, (c .before .before .before .before .pre .1 .0, (c .before .before .before .before .pre .1 .1, omega arith)))
+
+add-at : tie.Need-add-at Inv-loop μ-loop
+add-at c = let l = start-small _ (c .before .before .before .before .before .pre .0) _ (c .before .before .loop .inv .0) in omega (arith, c .size-of .ensures .1, c .before .before .loop .inv .1 .1)
+
+add-part : tie.Need-add-part Inv-loop μ-loop
+add-part c = search needs
+
+loop-less : tie.Need-loop-less Inv-loop μ-loop
+loop-less c = search needs
+
+loop-again : tie.Need-loop-again Inv-loop μ-loop
+loop-again c = (omega arith, (filled-more _ _ _ _ _ (c .before .before .loop .inv .1 .0) (c .before .before .loop .inv .1 .1), start-more _ _ _ _ (c .before .before .loop .inv .1 .1) (c .size-of .ensures .0)))
+
+returns : tie.Need-returns Inv-loop μ-loop
+unfolding startsOf
+returns c = parts-end _ _ _ _ _ (c .before .loop .inv .0) (c .loop-test .left) (c .before .loop .inv .1 .0)
+
+pub starts-of-spec : {M : Type 1} → statement M
+starts-of-spec =
+    tie.close
+    (tie.spec
+    Inv-loop
+    μ-loop
+    shared-slice-read-m
+    add-m
+    loop-holds
+    mul-r
+    array-write-r
+    size-of-requires
+    add-at
+    add-part
+    loop-less
+    loop-again
+    returns)

@@ -1,0 +1,46 @@
+-- What a plan says of its sheet, place by place: all that a call needs to know of the arrays.
+-- Assumes nothing.
+use Prim.Native.Nat.{ℕ, _+_, _*_, _<_, _≤_}
+use mathlib.Core.Path.{_≡_}
+use mathlib.Core.Bool.{_&&_}
+use lib.ListN.{length, getD}
+use Rattle.lists.specs.Lists.{at, member}
+use Rattle.lists.specs.Totals.{one}
+use Rattle.meaning.specs.Sheet.{Sheet, hasColumn, room}
+use Rattle.meaning.specs.Plan.{root, dep, need, kept, isShown, shown, columns, size, start, storeLength}
+use Rattle.layout.specs.declared.Plan.{Plan}
+
+-- the lengths of the arrays
+pub record Lengths (p : Plan) : Type 0 where
+  pub kept-length : length (p .kept) ≡ 8
+  pub shows-length : length (p .shows) ≡ 64
+  pub shown-length : length (p .shown) ≡ 64
+  pub columns-length : length (p .columns) ≡ 9
+  pub rooms-length : length (p .rooms) ≡ 9
+  pub starts-length : length (p .starts) ≡ 9
+  pub dep-length : length (p .dep) ≡ 64
+  pub need-length : length (p .need) ≡ 64
+
+-- p is the plan of the sheet s
+pub record Planned (s : Sheet) (p : Plan) : Type 0 where
+  pub lengths : Lengths p
+  pub tables-some : 1 ≤ p .tables
+  pub tables-few : p .tables ≤ 8
+  pub tables-are : p .tables ≡ s .n
+  pub root-in : p .root < p .tables
+  pub root-is : p .root ≡ root s
+  pub store-is : p .store ≡ storeLength s
+  pub store-small : p .store ≤ 9 + 9 * 65536
+  pub kept-at : (t : ℕ) → t < s .n → getD (p .kept) t 0 ≡ one (kept s t)
+  pub shows-at : (t c : ℕ) → t < 8 → c < 8 → getD (p .shows) (8 * t + c) 0 ≡ one (hasColumn s t c && isShown s t c)
+  pub shown-at : (t j : ℕ) → t < 8 → j < 8 → getD (p .shown) (8 * t + j) 0 ≡ at (shown s t) j
+  pub shown-few : (t : ℕ) → length (shown s t) ≤ 8
+  pub columns-at : (part : ℕ) → part ≤ s .n → getD (p .columns) part 0 ≡ columns s part
+  pub columns-small : (part : ℕ) → part ≤ s .n → columns s part ≤ 16
+  pub rooms-at : (part : ℕ) → part ≤ s .n → getD (p .rooms) part 0 ≡ room s part
+  pub rooms-small : (part : ℕ) → part ≤ s .n → room s part ≤ 4096
+  pub starts-at : (part : ℕ) → part ≤ s .n → getD (p .starts) part 0 ≡ start s part
+  -- a part ends within the store
+  pub parts-in : (part : ℕ) → part ≤ s .n → start s part + size s part ≤ storeLength s
+  pub dep-at : (t u : ℕ) → t < 8 → u < 8 → getD (p .dep) (8 * t + u) 0 ≡ one (member u (dep s t))
+  pub need-at : (t u : ℕ) → t < s .n → u < 8 → getD (p .need) (8 * t + u) 0 ≡ one (member u (need s t))

@@ -1,0 +1,319 @@
+// The plan of a good sheet: what the calls need of it, as arrays table by table, beside the verdict.
+use sheet::Verdict;
+ghost use mathlib.Core.Path.{_≡_};
+ghost use Prim.Native.Nat.{ℕ, _+_, _*_, _≤_, _<_};
+ghost use Rattle.lists.specs.Lists.{at};
+ghost use Rattle.lists.specs.Totals.{one};
+ghost use Rattle.meaning.specs.Sheet.{sheetOf};
+ghost use Rattle.meaning.specs.Plan.{columns, size, storeLength};
+ghost use Rattle.words.specs.Rules.{Counts};
+ghost use Rattle.words.specs.Counted.{counted};
+ghost use Rattle.sheet.specs.Tree.{GoodSheet};
+ghost use Rattle.layout.specs.Plans.{keptOf, showsAt, showsOf, shownOf, columnsOf, roomsOf, startsOf, depOf, needAt, needOf, planFor, emptyPlan, checkedOf};
+ghost use Rattle.layout.specs.Marks.{marked, markedAt, listsOf};
+
+// Part t is table t's, part n (tables) the list's. Column sets and table sets have eight places for each table, from 8t on.
+pub struct Plan {
+    pub tables: usize,
+    pub root: usize,
+    // the store's length
+    pub store: usize,
+    // 1 for a table that has a side table
+    pub kept: [u64; 8],
+    // 1 at 8t + c if table t's side table shows column c
+    pub shows: [u64; 64],
+    // the columns that it shows, in rising order, from 8t on
+    pub shown: [usize; 64],
+    // of each part: how many columns its rows have, how many rows it has room for, where it begins in the store
+    pub columns: [usize; 9],
+    pub rooms: [usize; 9],
+    pub starts: [usize; 9],
+    // 1 at 8t + u if u is in Dep(t), in Need(t)
+    pub dep: [u64; 64],
+    pub need: [u64; 64],
+}
+
+pub struct Checked {
+    pub verdict: Verdict,
+    pub plan: Plan,
+}
+
+fn mark_of(b: bool) -> u64
+    ensures { λ r. ⌜ r ≡ one b ⌝ }
+{
+    if b { 1 } else { 0 }
+}
+
+fn kept_marks(sheet: &[u64]) -> [u64; 8]
+    requires { ⌜ GoodSheet (now sheet) ⌝ }
+    ensures { λ m. ⌜ m ≡ keptOf (sheetOf (now (sheet .entry))) ⌝ }
+{
+    let n = sheet[0];
+    let mut m = [0u64; 8];
+    let mut t = 0;
+    while t < n {
+        m[t as usize] = mark_of(derive::is_kept(sheet, t));
+        t += 1;
+    }
+    m
+}
+
+// Whether table i / 8 has a column i % 8 and its side table shows it.
+fn shows_at(sheet: &[u64], i: u64) -> u64
+    requires { ⌜ GoodSheet (now sheet) ⌝ }
+    ensures { λ r. ⌜ r ≡ showsAt (sheetOf (now (sheet .entry))) i ⌝ }
+{
+    if !words::has_column(sheet, i / 8, i % 8) {
+        return 0;
+    }
+    mark_of(derive::is_shown(sheet, i / 8, i % 8))
+}
+
+fn shows_marks(sheet: &[u64]) -> [u64; 64]
+    requires { ⌜ GoodSheet (now sheet) ⌝ }
+    ensures { λ m. ⌜ m ≡ showsOf (sheetOf (now (sheet .entry))) ⌝ }
+{
+    let mut m = [0u64; 64];
+    let mut i: u64 = 0;
+    while i < 64 {
+        m[i as usize] = shows_at(sheet, i);
+        i += 1;
+    }
+    m
+}
+
+// Number j of the numbers below 8 that row t of the marks has, or 0.
+fn marked_at(marks: [u64; 64], t: usize, j: usize) -> usize
+    requires { ⌜ t < 8 ⌝ }
+    ensures { λ r. ⌜ r ≡ markedAt marks t j ⌝ }
+{
+    let mut many = 0;
+    let mut k = 0;
+    while k < 8 {
+        let c = k;
+        k += 1;
+        if marks[8 * t + c] == 1 {
+            if many == j {
+                return c;
+            }
+            many += 1;
+        }
+    }
+    0
+}
+
+// The marked numbers of each row, in rising order.
+fn marked_lists(marks: [u64; 64]) -> [usize; 64]
+    ensures { λ r. ⌜ r ≡ listsOf marks ⌝ }
+{
+    let mut r = [0usize; 64];
+    let mut i = 0;
+    while i < 64 {
+        r[i] = marked_at(marks, i / 8, i % 8);
+        i += 1;
+    }
+    r
+}
+
+fn marks_in(marks: [u64; 64], t: usize) -> usize
+    requires { ⌜ t < 8 ⌝ }
+    ensures { λ r. ⌜ r ≡ counted (marked marks t) 8 ⌝ }
+{
+    let mut many = 0;
+    let mut k = 0;
+    while k < 8 {
+        let c = k;
+        k += 1;
+        if marks[8 * t + c] == 1 {
+            many += 1;
+        }
+    }
+    many
+}
+
+// How many columns the rows of a part have: none for an unkept table, the listed columns for the list.
+fn columns_in(sheet: &[u64], kept: [u64; 8], shows: [u64; 64], part: usize) -> usize
+    requires { ⌜ GoodSheet (now sheet) × ((kept ≡ keptOf (sheetOf (now sheet))) × ((shows ≡ showsOf (sheetOf (now sheet))) × (part ≤ at (now sheet) 0))) ⌝ }
+    ensures { λ r. ⌜ r ≡ columns (sheetOf (now (sheet .entry))) part ⌝ }
+{
+    if sheet[0] as usize <= part {
+        return sheet[3] as usize;
+    }
+    if kept[part] == 0 {
+        return 0;
+    }
+    marks_in(shows, part)
+}
+
+fn columns_of(sheet: &[u64], kept: [u64; 8], shows: [u64; 64]) -> [usize; 9]
+    requires { ⌜ GoodSheet (now sheet) × ((kept ≡ keptOf (sheetOf (now sheet))) × (shows ≡ showsOf (sheetOf (now sheet)))) ⌝ }
+    ensures { λ r. ⌜ r ≡ columnsOf (sheetOf (now (sheet .entry))) ⌝ }
+{
+    let m = sheet[0] as usize + 1;
+    let mut r = [0usize; 9];
+    let mut part = 0;
+    while part < m {
+        r[part] = columns_in(sheet, kept, shows, part);
+        part += 1;
+    }
+    r
+}
+
+fn rooms_of(sheet: &[u64]) -> [usize; 9]
+    requires { ⌜ Counts (now sheet) ⌝ }
+    ensures { λ r. ⌜ r ≡ roomsOf (sheetOf (now (sheet .entry))) ⌝ }
+{
+    let m = sheet[0] as usize + 1;
+    let from = 4
+        + sheet[0] as usize
+        + 4 * sheet[1] as usize
+        + 4 * sheet[2] as usize
+        + 2 * sheet[3] as usize;
+    let mut r = [0usize; 9];
+    let mut part = 0;
+    while part < m {
+        r[part] = sheet[from + part] as usize;
+        part += 1;
+    }
+    r
+}
+
+// How many words a part has room for.
+fn size_of(sheet: &[u64], rooms: [usize; 9], columns: [usize; 9], part: usize) -> usize
+    requires { ⌜ GoodSheet (now sheet) × ((rooms ≡ roomsOf (sheetOf (now sheet))) × ((columns ≡ columnsOf (sheetOf (now sheet))) × (part ≤ at (now sheet) 0))) ⌝ }
+    ensures { λ r. ⌜ (r ≡ size (sheetOf (now (sheet .entry))) part) × (r ≤ 65536) ⌝ }
+{
+    rooms[part] * columns[part]
+}
+
+// Where each part begins: behind the nine counts and the parts before it.
+fn starts_of(sheet: &[u64], rooms: [usize; 9], columns: [usize; 9]) -> [usize; 9]
+    requires { ⌜ GoodSheet (now sheet) × ((rooms ≡ roomsOf (sheetOf (now sheet))) × (columns ≡ columnsOf (sheetOf (now sheet)))) ⌝ }
+    ensures { λ r. ⌜ r ≡ startsOf (sheetOf (now (sheet .entry))) ⌝ }
+{
+    let m = sheet[0] as usize + 1;
+    let mut r = [0usize; 9];
+    let mut at: usize = 9;
+    let mut part = 0;
+    while part < m {
+        r[part] = at;
+        at += size_of(sheet, rooms, columns, part);
+        part += 1;
+    }
+    r
+}
+
+// The store's length: where the list begins, and the list's room.
+fn store_of(sheet: &[u64], rooms: [usize; 9], columns: [usize; 9], starts: [usize; 9]) -> usize
+    requires { ⌜ GoodSheet (now sheet) × ((rooms ≡ roomsOf (sheetOf (now sheet))) × ((columns ≡ columnsOf (sheetOf (now sheet))) × (starts ≡ startsOf (sheetOf (now sheet))))) ⌝ }
+    ensures { λ r. ⌜ r ≡ storeLength (sheetOf (now (sheet .entry))) ⌝ }
+{
+    let n = sheet[0] as usize;
+    let last = size_of(sheet, rooms, columns, n);
+    starts[n] + last
+}
+
+fn dep_marks(sheet: &[u64]) -> [u64; 64]
+    requires { ⌜ GoodSheet (now sheet) ⌝ }
+    ensures { λ m. ⌜ m ≡ depOf (sheetOf (now (sheet .entry))) ⌝ }
+{
+    let mut m = [0u64; 64];
+    let mut i: u64 = 0;
+    while i < 64 {
+        m[i as usize] = mark_of(derive::depends(sheet, i / 8, i % 8, 1));
+        i += 1;
+    }
+    m
+}
+
+fn need_at(sheet: &[u64], i: u64) -> u64
+    requires { ⌜ GoodSheet (now sheet) ⌝ }
+    ensures { λ r. ⌜ r ≡ needAt (sheetOf (now (sheet .entry))) i ⌝ }
+{
+    let n = sheet[0];
+    if n <= i / 8 {
+        return 0;
+    }
+    mark_of(derive::needs(sheet, i / 8, i % 8, n as usize))
+}
+
+fn need_marks(sheet: &[u64]) -> [u64; 64]
+    requires { ⌜ GoodSheet (now sheet) ⌝ }
+    ensures { λ m. ⌜ m ≡ needOf (sheetOf (now (sheet .entry))) ⌝ }
+{
+    let mut m = [0u64; 64];
+    let mut i: u64 = 0;
+    while i < 64 {
+        m[i as usize] = need_at(sheet, i);
+        i += 1;
+    }
+    m
+}
+
+// The plan of a good sheet.
+fn plan_for(sheet: &[u64]) -> Plan
+    requires { ⌜ GoodSheet (now sheet) ⌝ }
+    ensures { λ p. ⌜ p ≡ planFor (sheetOf (now (sheet .entry))) ⌝ }
+{
+    let tables = sheet[0] as usize;
+    let root = derive::root_of(sheet) as usize;
+    let kept = kept_marks(sheet);
+    let shows = shows_marks(sheet);
+    let shown = marked_lists(shows);
+    let columns = columns_of(sheet, kept, shows);
+    let rooms = rooms_of(sheet);
+    let starts = starts_of(sheet, rooms, columns);
+    let store = store_of(sheet, rooms, columns, starts);
+    let dep = dep_marks(sheet);
+    let need = need_marks(sheet);
+    Plan {
+        tables: tables,
+        root: root,
+        store: store,
+        kept: kept,
+        shows: shows,
+        shown: shown,
+        columns: columns,
+        rooms: rooms,
+        starts: starts,
+        dep: dep,
+        need: need,
+    }
+}
+
+fn empty_plan() -> Plan
+    ensures { λ p. ⌜ p ≡ emptyPlan ⌝ }
+{
+    Plan {
+        tables: 0,
+        root: 0,
+        store: 0,
+        kept: [0u64; 8],
+        shows: [0u64; 64],
+        shown: [0usize; 64],
+        columns: [0usize; 9],
+        rooms: [0usize; 9],
+        starts: [0usize; 9],
+        dep: [0u64; 64],
+        need: [0u64; 64],
+    }
+}
+
+// The verdict on a sheet, and beside it the plan: all zero where the sheet is refused.
+pub fn check(sheet: &[u64]) -> Checked
+    ensures { λ r. ⌜ r ≡ checkedOf (now (sheet .entry)) ⌝ }
+{
+    let v = sheet::verdict_of(sheet);
+    let Verdict::Good = v else {
+        let p = empty_plan();
+        return Checked {
+            verdict: v,
+            plan: p,
+        };
+    };
+    let p = plan_for(sheet);
+    Checked {
+        verdict: v,
+        plan: p,
+    }
+}
