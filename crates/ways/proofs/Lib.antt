@@ -1,0 +1,5 @@
+pub mod Sides
+pub mod Grounds
+pub mod Treks
+pub mod Entries
+pub mod Tests
