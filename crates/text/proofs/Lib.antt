@@ -3,3 +3,5 @@ pub mod Texts
 pub mod Lengths
 pub mod Writes
 pub mod Sets
+pub mod Lines
+pub mod Answers

@@ -3,6 +3,8 @@
 use Rattle.meaning.specs.Plan.{Plan, plan, noPlan}
 use Rattle.text.specs.Printing.{planText}
 use Rattle.text.specs.Reading.{Text, Reading, says, isnt, readText}
+use Rattle.text.specs.Readers.{finished, readingOf}
+use Rattle.text.specs.declared.reading.Reader.{Reader}
 
 abbrev pub planFor : Reading → Plan
 planFor (says ws) = plan ws
@@ -14,3 +16,7 @@ planOfText text = planFor (readText text)
 -- what the program prints for a text
 unfoldable pub printed : Text → Text
 printed text = planText (planOfText text)
+
+-- what it prints by what a reader has read, once the text has ended
+unfoldable pub reply : Reader → Text
+reply r = planText (planFor (readingOf (finished r)))

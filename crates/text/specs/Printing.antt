@@ -57,3 +57,8 @@ planText p = cond (eqb (p .number) 0) (headText (p .root) (p .store) ++ tablesTe
 unfoldable pub memberText : Bool → ℕ → Text
 memberText true x = 44 ∷ decimal x
 memberText false x = decimal x
+
+-- lines 0, 1, .., n - 1
+unfoldable pub linesUpTo : (ℕ → Text) → ℕ → Text
+linesUpTo line zero = []
+linesUpTo line (suc n) = linesUpTo line n ++ line n

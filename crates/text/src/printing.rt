@@ -4,8 +4,8 @@ ghost use mathlib.Core.List.{_++_};
 ghost use Prim.Native.Nat.{ℕ, _+_, _*_, _≤_, _<_};
 ghost use lib.Dec.{ltb};
 ghost use lib.ListN.{length};
-ghost use Rattle.text.specs.Printing.{decimal, memberText, setText, setsText, lineText, headText, refusedText};
-ghost use Rattle.text.specs.Marks.{markedIn};
+ghost use Rattle.text.specs.Printing.{decimal, memberText, setText, setsText, lineText, headText, refusedText, linesUpTo};
+ghost use Rattle.text.specs.Marks.{markedIn, lineOf};
 ghost use Rattle.text.specs.Writing.{Wrote};
 
 // Writes the bytes from `at` on, and answers where they end.
@@ -145,4 +145,26 @@ fn put_refused(number: u64, out: &mut [u8], at: usize) -> usize
 {
     let a = put_field(b"refused ", number, out, at);
     put(b"\n", out, a)
+}
+
+// Writes the lines of tables 0 to n - 1.
+fn put_lines(
+    n: usize,
+    kept: &[u64],
+    columns: &[u64],
+    dep: &[u64],
+    need: &[u64],
+    out: &mut [u8],
+    at: usize,
+) -> usize
+    requires { ⌜ (n ≤ length (now kept)) × ((8 * n ≤ length (now columns)) × ((8 * n ≤ length (now dep)) × ((8 * n ≤ length (now need)) × (at + 115 * n ≤ length (now out))))) ⌝ }
+    ensures { λ r. ⌜ Wrote (now (out .entry)) at (linesUpTo (lineOf (now (kept .entry)) (now (columns .entry)) (now (dep .entry)) (now (need .entry))) n) (now (out .exit)) r ⌝ }
+{
+    let mut end = at;
+    let mut t = 0;
+    while t < n {
+        end = put_line(kept[t], columns, dep, need, t, out, end);
+        t += 1;
+    }
+    end
 }
