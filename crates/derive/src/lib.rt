@@ -135,7 +135,7 @@ pub fn is_kept(sheet: &[u64], t: u64) -> bool
 }
 
 // Whether c is the child column of an edge that leaves t.
-fn is_child_column(sheet: &[u64], t: u64, c: u64) -> bool
+pub fn is_child_column(sheet: &[u64], t: u64, c: u64) -> bool
     requires { ⌜ Counts (now sheet) ⌝ }
     ensures { λ b. ⌜ b ≡ some (leavesBy (now (sheet .entry)) t c) (at (now (sheet .entry)) 1) ⌝ }
 {

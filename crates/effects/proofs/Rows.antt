@@ -1,27 +1,30 @@
 -- The rows that a change of a sound store takes and puts: the list rows by walks, and the side row.
 -- Assumes nothing.
 use Prim.Native.Nat.{ℕ, _<_}
-use mathlib.Core.Path.{_≡_, refl, ap}
+use mathlib.Core.Path.{_≡_, refl, sym, ap, _∙_}
 use mathlib.Core.Bool.{Bool, true, false, cond}
-use mathlib.Core.List.{[], _∷_}
+use mathlib.Core.List.{[], _∷_, map}
 use mathlib.Core.Logic.{⊎-elim}
 use native.Mathlib.Omega.{arith}
 use lib.Dec.{T}
 use lib.ListN.{length}
-use Rattle.lists.specs.Lists.{Words}
+use Rattle.lists.specs.Lists.{Words, flat}
 use Rattle.lists.specs.Totals.{total, Same}
 use Rattle.lists.proofs.Truth.{isT, T→≡, F→≡, decided, and-snd, and-both, cond-true}
-use Rattle.rows.specs.Rows.{Row, pick, rising, hasRow, hasRows}
+use Rattle.rows.specs.Rows.{Row, Rows, pick, rising, hasRow, hasRows}
 use Rattle.meaning.specs.Sheet.{Sheet}
-use Rattle.meaning.specs.Plan.{kept, shown}
+use Rattle.meaning.specs.Plan.{root, kept, shown}
 use Rattle.meaning.specs.Base.{rowsOf}
-use Rattle.meaning.specs.Meaning.{Model}
+use Rattle.meaning.specs.Meaning.{listRow, Model}
 use Rattle.meaning.specs.Store.{modelOf, sound}
-use Rattle.meaning.specs.Change.{qualifies, canTake, rowsThrough, sideRow, oldRow}
+use Rattle.meaning.specs.Change.{widened, qualifies, canTake, rowsThrough, sideRow, oldRow}
 use Rattle.laws.proofs.Sheets.{Good}
-use Rattle.laws.proofs.Stores.{sound-get}
+use Rattle.laws.proofs.Trees.{cannot-root, cannot-unkept}
+use Rattle.laws.proofs.Models.{part-side}
+use Rattle.laws.proofs.Stores.{sound-get, model-many, sound-proper}
 use Rattle.laws.proofs.Changes.{side-row-none}
-use Rattle.walks.proofs.Sides.{rows-through, no-through, sound-once}
+use Rattle.walks.specs.Walk.{walkFrom, allWalks, withRow}
+use Rattle.walks.proofs.Sides.{with-other, rows-through, no-through, sound-once}
 use Rattle.effects.specs.Applied.{walkRows}
 
 module _ (s : Sheet) (g : Good s) (ws : Words) (ok : T (sound s ws)) where
@@ -30,13 +33,21 @@ module _ (s : Sheet) (g : Good s) (ws : Words) (ok : T (sound s ws)) where
   unfolding modelOf
   list-rising = sound-get s ws ok .in-order (s .n) (omega arith)
 
+  -- where ways cannot be taken there is no walk: the root is another table, and unkept
+  walks-none : (t : ℕ) → t < s .n → (r : Row) → (T (canTake s t) → ⊥) → walkRows s (modelOf s ws) t r ≡ []
+  unfolding walkRows allWalks
+  walks-none t l r cannot =
+      let m = modelOf s ws in
+      let none : rowsOf (m .sides) (root s) ≡ [] = sym (part-side m (s .n) (model-many s ws) (root s) (g .root-in)) ∙ sound-proper s g ws ok .unkept (root s) (g .root-in) (cannot-unkept s g t cannot) in
+      let empty : rowsOf (withRow s m t r) (root s) ≡ [] = with-other s g m t l r (root s) (g .root-in) (λ e. cannot-root s g t cannot (sym e)) ∙ ap (map (widened s (root s))) none in
+      ap (λ (rows : Rows). map (listRow s) (flat (map (walkFrom s (withRow s m t r)) rows))) empty
+
   -- the list rows of the ways through a qualified row are those of the walks
   pub walk-rows : (t : ℕ) → t < s .n → (r : Row) → T (qualifies s (modelOf s ws) t r) → Same (rowsThrough s (modelOf s ws) t r) (walkRows s (modelOf s ws) t r)
   unfolding walkRows
   walk-rows t l r q =
-      ⊎-elim (λ can. rw (T→≡ (canTake s t) can) (rows-through s g (modelOf s ws) t l r (sound-once s ws ok) q can))
-      (λ no. rw (F→≡ (canTake s t) no)
-      (λ f. ap (total f) (no-through s (modelOf s ws) t r (λ h. no (and-snd (qualifies s (modelOf s ws) t r) (canTake s t) h)))))
+      ⊎-elim (λ can. rows-through s g (modelOf s ws) t l r (sound-once s ws ok) q can)
+      (λ no f. ap (total f) (no-through s (modelOf s ws) t r (λ h. no (and-snd (qualifies s (modelOf s ws) t r) (canTake s t) h)) ∙ sym (walks-none t l r no)))
       (decided (canTake s t))
 
 -- the side row of a kept table

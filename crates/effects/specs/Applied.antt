@@ -3,7 +3,7 @@
 use Prim.Native.Nat.{ℕ}
 use mathlib.Core.Path.{_≡_}
 use mathlib.Core.Bool.{cond}
-use mathlib.Core.List.{[], map}
+use mathlib.Core.List.{map}
 use lib.Dec.{T}
 use lib.ListN.{set}
 use Rattle.lists.specs.Lists.{Words}
@@ -36,9 +36,9 @@ done s store t taken added side list =
 abbrev pub nothing : Words → Outcome
 nothing store = record { number = 0; taken = 0; added = 0; words = store }
 
--- the list rows of the walks through r, in the order in which they are walked: none where no ways can be taken
+-- the list rows of the walks through r, in the order in which they are walked
 unfoldable pub walkRows : Sheet → Model → ℕ → Row → Rows
-walkRows s m t r = cond (canTake s t) (map (listRow s) (allWalks s (withRow s m t r))) []
+walkRows s m t r = map (listRow s) (allWalks s (withRow s m t r))
 
 -- the list rows that an update of r replaces: of the walks through r, or found by r's key
 unfoldable pub replacedRows : Sheet → Model → ℕ → Row → Rows

@@ -77,11 +77,11 @@ pub record Closing (w : ℕ) (marks old : Words) (i k : ℕ) (s : Words) : Type 
   pub kept : length (unmarked marks (cut w i old)) ≡ k
   pub words : s ≡ flat (unmarked marks (cut w i old)) ++ drop (k * w) old
 
-flat-append : (xs ys : Rows) → flat (xs ++ ys) ≡ flat xs ++ flat ys
+pub flat-append : (xs ys : Rows) → flat (xs ++ ys) ≡ flat xs ++ flat ys
 flat-append [] ys = refl
 flat-append (x ∷ xs) ys = ap (λ (l : Words). x ++ l) (flat-append xs ys) ∙ sym (append-assoc x (flat xs) (flat ys))
 
-cut-snoc : (w i : ℕ) (s : Words) → cut w (i + 1) s ≡ cut w i s ++ (row w i s ∷ [])
+pub cut-snoc : (w i : ℕ) (s : Words) → cut w (i + 1) s ≡ cut w i s ++ (row w i s ∷ [])
 cut-snoc w i s = cut-split w i 1 s ∙ ap (λ (l : Rows). cut w i s ++ l) (cut-suc w 0 (drop (i * w) s) ∙ ap (λ (l : Rows). row w i s ∷ l) (cut-zero w (drop w (drop (i * w) s))))
 
 pub closing-start : (w : ℕ) (marks s : Words) → Closing w marks s 0 0 s

@@ -1,0 +1,81 @@
+-- `give_marked` meets its contract. The loop's invariant: of the rows before i the marked ones are given, and the rest is as it was.
+-- Assumes nothing.
+use Prim.Native.Nat.{_≤_, _+_, _-_, _*_}
+use mathlib.Core.Path.{_≡_, refl, _∙_}
+use lib.ListN.{length}
+use Rattle.lists.specs.Lists.{at}
+use Rattle.rows.proofs.Cut.{row-fits}
+use Rattle.columns.specs.Gives.{given}
+use Rattle.columns.proofs.Given.{is-marked, not-marked, given-start, given-stay, given-more}
+use borrow.Author.Needs.{needs}
+use native.Mathlib.Omega.{arith}
+use Rattle.columns.proofs.give_marked.Statement.{statement}
+use Rattle.columns.proofs.give_marked.Tie as tie
+
+abbrev Inv-loop : tie.InvT-loop
+Inv-loop sheet s₀ count marks t r i₀ s i = (i ≤ count) × (length s ≡ length s₀) × (s ≡ given sheet t r marks i s₀)
+
+abbrev μ-loop : tie.MeasureT-loop
+μ-loop sheet s₀ count marks t r i₀ s i = count - i
+
+-- row i is one of the rows
+here : (c : tie.In-loop Inv-loop μ-loop)
+    → let st = c .before .before .before .before .before .before in
+    c .before .loop .i * at (st .args .sheet .now) 3 + at (st .args .sheet .now) 3 ≤ length (st .args .s .now)
+here c =
+    let st = c .before .before .before .before .before .before in
+    row-fits (at (st .args .sheet .now) 3) (st .args .count) (c .before .loop .i) _ (c .loop-test .taken) (st .pre .1 .1 .0)
+
+loop-holds : tie.Need-loop-holds Inv-loop μ-loop
+loop-holds c = (search needs, refl, given-start _ _ _ _ _)
+
+add-i : tie.Need-add-i Inv-loop μ-loop
+add-i c = search needs
+
+mul-if1 : tie.Need-mul-if1 Inv-loop μ-loop
+mul-if1 c = search needs
+
+shared-slice-read-if1 : tie.Need-shared-slice-read-if1 Inv-loop μ-loop
+shared-slice-read-if1 c = search needs
+
+give-row-requires : tie.Need-give-row-requires Inv-loop μ-loop
+give-row-requires c κs = let st = c .before .before .before .before .before .before .before .before .before in
+    (st .pre .0, (st .pre .1 .0, omega (arith, here (c .before .before .before), c .before .before .before .before .loop .inv .1)))
+
+loop-less : tie.Need-loop-less Inv-loop μ-loop
+loop-less c = search needs
+
+loop-again : tie.Need-loop-again Inv-loop μ-loop
+loop-again c = let lp = c .before .before .before .before .before .before .before in
+    (omega arith, c .before .before .give-row .kept .1 .0 ∙ lp .loop .inv .1, given-more _ _ _ _ _ _ (here (c .before .before .before .before .before .before)) _ (lp .loop .inv .2) _ (is-marked _ _ (c .before .before .before .before .if1 .taken)) (c .before .before .give-row .ensures))
+
+loop-less-2 : tie.Need-loop-less-2 Inv-loop μ-loop
+loop-less-2 c = search needs
+
+loop-again-2 : tie.Need-loop-again-2 Inv-loop μ-loop
+loop-again-2 c = let lp = c .before .before .before in
+    (omega arith, lp .loop .inv .1, given-stay _ _ _ _ _ _ (here (c .before .before)) _ (lp .loop .inv .2) (not-marked _ _ (c .if1 .left)))
+
+same-length : tie.Need-same-length Inv-loop μ-loop
+same-length c = search needs
+
+returns : tie.Need-returns Inv-loop μ-loop
+returns c = let e : c .before .loop .i ≡ c .before .before .before .before .before .before .args .count = omega arith in c .before .loop .inv .2 ∙ rw e
+
+pub give-marked-spec : {M : Type 1} → statement M
+give-marked-spec =
+    tie.close
+    (tie.spec
+    Inv-loop
+    μ-loop
+    loop-holds
+    add-i
+    mul-if1
+    shared-slice-read-if1
+    give-row-requires
+    loop-less
+    loop-again
+    loop-less-2
+    loop-again-2
+    same-length
+    returns)
