@@ -1,0 +1,4 @@
+pub mod Runs
+pub mod Promises
+pub mod Qualifies
+pub mod Written
