@@ -2,12 +2,11 @@
 -- Assumes nothing.
 use Prim.Native.Nat.{ℕ}
 use mathlib.Core.Path.{_≡_, refl, sym, ap, ap₂, _∙_}
-use lib.Dec.{T}
 use Rattle.lists.specs.Lists.{Words}
 use Rattle.meaning.specs.Answers.{Outcome, refused}
 use Rattle.store.specs.declared.Answer.{Answer}
 use Rattle.store.specs.declared.Answer.the-variants.{Done, Refused}
-use Rattle.store.specs.Answers.{numberOf, takenOf, addedOf, Says}
+use Rattle.store.specs.Answers.{Says}
 
 -- two answers that say one outcome are one answer, and leave the same store
 pub says-once : (o : Outcome) (a b : Answer) (v w : Words) → Says o a v → Says o b w → (a ≡ b) × (v ≡ w)

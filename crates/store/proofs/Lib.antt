@@ -2,4 +2,8 @@ pub mod Answers
 pub mod Tests
 pub mod Parts
 pub mod Lying
+pub mod Plans
+pub mod Whole
 pub mod Shows
+pub mod Checks
+pub mod Showing

@@ -1,15 +1,15 @@
 -- A part of the store of a good sheet: its words, count and rows are those of the definition, it lies within a store of the right length, and a
 -- function that writes it leaves a store that stands for the model with the rows written.
 -- Assumes nothing.
-use Prim.Native.Nat.{ℕ, _+_, _*_, _<_, _≤_}
-use mathlib.Core.Path.{_≡_, refl, sym, ap, ap₂, _∙_, subst}
+use Prim.Native.Nat.{ℕ, _+_, _*_}
+use mathlib.Core.Path.{_≡_, sym, ap, ap₂, _∙_, subst}
 use native.Mathlib.Omega.{arith}
-use lib.ListN.{length, set, length-append, length-replicate}
+use lib.ListN.{length, set}
 use Rattle.lists.specs.Lists.{Words, at}
 use Rattle.lists.specs.Parts.{part, splice}
-use Rattle.rows.specs.Rows.{Rows, cut}
-use Rattle.rows.specs.Regions.{laid, Region, Holds}
-use Rattle.meaning.specs.Sheet.{Sheet, room}
+use Rattle.rows.specs.Rows.{Rows}
+use Rattle.rows.specs.Regions.{laid, Holds}
+use Rattle.meaning.specs.Sheet.{Sheet}
 use Rattle.meaning.specs.Plan.{columns, size, start, storeLength}
 use Rattle.meaning.specs.Meaning.{Model}
 use Rattle.meaning.specs.Store.{partRows, count, partWords, rowsAt}

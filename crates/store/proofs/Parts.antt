@@ -2,21 +2,31 @@
 -- Assumes nothing.
 use Prim.Native.Nat.{ℕ, _+_, _-_, _*_, _<_, _≤_}
 use mathlib.Core.Path.{_≡_, refl, sym, ap, ap₂, _∙_, subst}
+use mathlib.Core.Bool.{Bool, true, false}
 use native.Mathlib.Omega.{arith}
-use native.Mathlib.Nat.{le-refl}
-use lib.ListN.{length, getD, take, drop, set}
+use lib.ListN.{length, getD, set}
 use lib.Seq.{set-getD}
 use borrow.Rule.Slice.PartMut.{putMid}
 use Rattle.lists.specs.Lists.{Words}
-use Rattle.lists.specs.Parts.{part, splice}
+use Rattle.lists.specs.Parts.{part}
 use Rattle.lists.proofs.Parts.{put-back, length-part}
 use Rattle.rows.specs.Rows.{Rows}
-use Rattle.rows.specs.Regions.{laid, Region, Holds}
+use Rattle.rows.specs.Regions.{laid, Holds, soundRegion, soundSide}
 use Rattle.rows.proofs.Cut.{row-fits}
 use Rattle.rows.proofs.Regions.{holds-count}
 use Rattle.places.proofs.Splices.{at-splice}
 use Rattle.store.specs.declared.Part.{Part}
-use Rattle.store.specs.Parts.{sizeOf, stopOf, wordsIn, countIn, rowsIn, Within, Kept, withRows, Wrote}
+use Rattle.store.specs.Parts.{sizeOf, stopOf, wordsIn, countIn, soundIn, Kept, withRows, Wrote}
+
+-- what the two tests of `rows` find is what is asked of a part
+module _ (p : Part) (keyed : Bool) (ws : Words) (b : Bool) where
+  pub sound-keyed : keyed ≡ true → b ≡ soundSide (p .columns) (p .room) (countIn p ws) (wordsIn p ws) → b ≡ soundIn p keyed ws
+  unfolding soundIn
+  sound-keyed e h = rw e h
+
+  pub sound-unkeyed : keyed ≡ false → b ≡ soundRegion (p .columns) (p .room) (countIn p ws) (wordsIn p ws) → b ≡ soundIn p keyed ws
+  unfolding soundIn
+  sound-unkeyed e h = rw e h
 
 module _ (p : Part) (ws : Words) (k : Kept p ws) where
   pub words-length : length (wordsIn p ws) ≡ sizeOf p

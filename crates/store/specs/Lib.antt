@@ -1,3 +1,5 @@
 pub mod Answers
 pub mod Tests
 pub mod Parts
+pub mod Plans
+pub mod Shows

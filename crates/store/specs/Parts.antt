@@ -2,11 +2,12 @@
 -- Assumes nothing.
 use Prim.Native.Nat.{ℕ, _+_, _*_, _<_, _≤_}
 use mathlib.Core.Path.{_≡_}
+use mathlib.Core.Bool.{Bool, cond}
 use lib.ListN.{length, set}
 use Rattle.lists.specs.Lists.{Words, at}
 use Rattle.lists.specs.Parts.{part, splice}
 use Rattle.rows.specs.Rows.{Rows, cut}
-use Rattle.rows.specs.Regions.{laid, Region, Holds}
+use Rattle.rows.specs.Regions.{laid, Region, Holds, soundRegion, soundSide}
 use Rattle.meaning.specs.Sheet.{Sheet, room}
 use Rattle.meaning.specs.Plan.{columns, start}
 use Rattle.places.specs.Stands.{slot}
@@ -28,6 +29,11 @@ countIn p ws = at ws (p .slot)
 
 unfoldable pub rowsIn : Part → Words → Rows
 rowsIn p ws = cut (p .columns) (countIn p ws) (wordsIn p ws)
+
+-- its words are sound, as a side table's (keyed) or the list's
+unfoldable pub soundIn : Part → Bool → Words → Bool
+soundIn p keyed ws =
+    cond keyed (soundSide (p .columns) (p .room) (countIn p ws) (wordsIn p ws)) (soundRegion (p .columns) (p .room) (countIn p ws) (wordsIn p ws))
 
 -- it is part `number` of the stores of a sheet
 pub record Lies (s : Sheet) (number : ℕ) (p : Part) : Type 0 where

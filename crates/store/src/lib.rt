@@ -1,11 +1,18 @@
 // The store of a good sheet: sound or not, its parts shown and written, and what a call that may write it answers.
+use layout::Plan;
+use sheet::Verdict;
 ghost use mathlib.Core.Path.{_≡_};
+ghost use mathlib.Core.Bool.{true};
 ghost use Prim.Native.Nat.{ℕ, _<_, _≤_};
 ghost use lib.Dec.{T};
 ghost use lib.ListN.{length, set};
 ghost use Rattle.rows.specs.Rows.{rising, putRow, takeRow};
+ghost use Rattle.rows.specs.Marks.{unmarked};
+ghost use Rattle.sheet.specs.Verdicts.{numberOf};
 ghost use Rattle.store.specs.Tests.{absentZero};
-ghost use Rattle.store.specs.Parts.{countIn, rowsIn, Kept, Wrote};
+ghost use Rattle.store.specs.Parts.{countIn, rowsIn, soundIn, Within, Kept, Wrote};
+ghost use Rattle.store.specs.Shows.{Gives};
+ghost use Rattle.store.specs.Plans.{OfSheet, partOf, TableIs, SidesIs, SoundIs};
 
 // What fill and change answer: rows taken from the list and rows added to it, or the number of the refusal.
 pub enum Answer {
@@ -21,6 +28,31 @@ pub struct Part {
     pub room: usize,
 }
 
+// Where part `number` lies: a table's, or at n (tables) the list's.
+pub fn part_of(plan: Plan, number: usize) -> Part
+    requires { ⌜ number ≤ plan .tables ⌝ }
+    requires { ⌜ plan .tables ≤ 8 ⌝ }
+    ensures { λ p. ⌜ p ≡ partOf plan number ⌝ }
+{
+    let start = plan.starts[number];
+    let columns = plan.columns[number];
+    let room = plan.rooms[number];
+    if number < plan.tables {
+        return Part {
+            slot: number,
+            start: start,
+            columns: columns,
+            room: room,
+        };
+    }
+    Part {
+        slot: 8,
+        start: start,
+        columns: columns,
+        room: room,
+    }
+}
+
 // Whether the counts of the tables from n to 7, which the sheet does not have, are 0.
 fn absent_zero(store: &[u64], n: usize) -> bool
     requires { ⌜ 8 ≤ length (now store) ⌝ }
@@ -34,6 +66,115 @@ fn absent_zero(store: &[u64], n: usize) -> bool
         t += 1;
     }
     true
+}
+
+// Whether a part is sound: its count within its room, its rows rising, the rest zero, and in a side table (keyed) no key twice.
+fn part_sound(store: &[u64], p: Part, keyed: bool) -> bool
+    requires { ⌜ Within p (now store) ⌝ }
+    requires { ⌜ (keyed ≡ true → 0 < p .columns) ⌝ }
+    ensures { λ b. ⌜ b ≡ soundIn p keyed (now (store .entry)) ⌝ }
+{
+    let slot = p.slot;
+    let from = p.start;
+    let to = from + p.room * p.columns;
+    let count = store[slot] as usize;
+    if keyed {
+        return rows::sound_side(&store[from..to], p.columns, p.room, count);
+    }
+    rows::sound_region(&store[from..to], p.columns, p.room, count)
+}
+
+// Whether table t is sound: its part, or if it is unkept its count, which is then 0.
+fn table_sound(plan: Plan, store: &[u64], t: usize) -> bool
+    requires { ⌜ OfSheet plan ⌝ }
+    requires { ⌜ t < plan .tables ⌝ }
+    requires { ⌜ length (now store) ≡ plan .store ⌝ }
+    ensures { λ b. ⌜ TableIs plan (now (store .entry)) t b ⌝ }
+{
+    if plan.kept[t] == 0 {
+        return store[t] == 0;
+    }
+    let p = part_of(plan, t);
+    part_sound(store, p, true)
+}
+
+fn sides_sound(plan: Plan, store: &[u64]) -> bool
+    requires { ⌜ OfSheet plan ⌝ }
+    requires { ⌜ length (now store) ≡ plan .store ⌝ }
+    ensures { λ b. ⌜ SidesIs plan (now (store .entry)) b ⌝ }
+{
+    let n = plan.tables;
+    let mut t = 0;
+    while t < n {
+        if table_sound(plan, store, t) {
+            t += 1;
+        } else {
+            return false;
+        }
+    }
+    true
+}
+
+// Refusal 7: whether any run of words is a sound store of the sheet of which this is the plan.
+pub fn is_sound(plan: Plan, store: &[u64]) -> bool
+    requires { ⌜ OfSheet plan ⌝ }
+    ensures { λ b. ⌜ SoundIs plan (now (store .entry)) b ⌝ }
+{
+    if store.len() != plan.store {
+        return false;
+    }
+    if !absent_zero(store, plan.tables) {
+        return false;
+    }
+    if !sides_sound(plan, store) {
+        return false;
+    }
+    let p = part_of(plan, plan.tables);
+    part_sound(store, p, false)
+}
+
+// Document 01's number of a verdict on a sheet: 0 for a good one.
+pub fn number_of(v: Verdict) -> u64
+    ensures { λ k. ⌜ k ≡ numberOf v ⌝ }
+{
+    match v {
+        Verdict::Good => 0,
+        Verdict::Refused(k) => k,
+    }
+}
+
+// The rows of part `number`, a table's or at n the list's: the stretch of the store that holds them, empty for an unkept table.
+// A refusal's number goes into the lent word, 0 if there is none.
+pub fn show<'a>(sheet: &[u64], store: &'a [u64], number: u64, refusal: &mut u64) -> &'a [u64]
+    ensures { λ r. ⌜ Gives (now (sheet .entry)) (now (store .entry)) number (now r) (now (refusal .exit)) ⌝ }
+{
+    let checked = layout::check(sheet);
+    let v = checked.verdict;
+    let plan = checked.plan;
+    let Verdict::Good = v else {
+        *refusal = number_of(v);
+        return &store[..0];
+    };
+    if store.len() != plan.store {
+        *refusal = 4;
+        return &store[..0];
+    }
+    let n = plan.tables as u64;
+    if n < number {
+        *refusal = 5;
+        return &store[..0];
+    }
+    if !is_sound(plan, store) {
+        *refusal = 7;
+        return &store[..0];
+    }
+    *refusal = 0;
+    let p = part_of(plan, number as usize);
+    let slot = p.slot;
+    let from = p.start;
+    let count = store[slot] as usize;
+    let to = from + count * p.columns;
+    &store[from..to]
 }
 
 // r comes into the part at its place; the count is one more.
@@ -81,4 +222,19 @@ pub fn replace_row(store: &mut [u64], p: Part, at: usize, r: &[u64])
     let to = from + p.room * w;
     let count = store[slot] as usize;
     rows::replace(&mut store[from..to], w, count, at, r);
+}
+
+// The marked rows go out of the part, in one pass.
+pub fn take_marked(store: &mut [u64], p: Part, marks: &[u16])
+    requires { ⌜ Kept p (now store) ⌝ }
+    requires { ⌜ countIn p (now store) ≤ length (now marks) ⌝ }
+    ensures { λ _. ⌜ Wrote p (unmarked (now (marks .entry)) (rowsIn p (now (store .entry)))) (now (store .entry)) (now (store .exit)) ⌝ }
+{
+    let slot = p.slot;
+    let from = p.start;
+    let w = p.columns;
+    let to = from + p.room * w;
+    let count = store[slot] as usize;
+    let left = rows::take_marked(&mut store[from..to], w, count, marks);
+    store[slot] = left as u64;
 }

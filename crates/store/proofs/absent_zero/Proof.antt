@@ -1,3 +1,5 @@
+-- `store::absent_zero` meets its contract. The invariant: the counts from n to t are 0.
+-- Assumes nothing.
 use Prim.Native.Nat.{_-_, _≤_}
 use Rattle.store.specs.Tests.{ZeroTo}
 use Rattle.store.proofs.Tests.{zero-start, zero-more, zero-fails, zero-end}
@@ -5,8 +7,6 @@ use borrow.Author.Needs.{needs}
 use native.Mathlib.Omega.{arith}
 use Rattle.store.proofs.absent_zero.Statement.{statement}
 use Rattle.store.proofs.absent_zero.Tie as tie
-use Rattle.store.proofs.absent_zero.Reads as reads
-use Rattle.store.proofs.absent_zero.Lts as lts
 
 abbrev Inv-loop : tie.InvT-loop
 Inv-loop store n t₀ t = (n ≤ t) × ZeroTo store n t
@@ -14,35 +14,27 @@ Inv-loop store n t₀ t = (n ≤ t) × ZeroTo store n t
 abbrev μ-loop : tie.MeasureT-loop
 μ-loop store n t₀ t = 8 - t
 
--- src/lib.rt:19:5
 loop-holds : tie.Need-loop-holds Inv-loop μ-loop
 loop-holds c = (omega arith, zero-start _ _)
 
--- src/lib.rt:20:12
 mul-if1 : tie.Need-mul-if1 Inv-loop μ-loop
 mul-if1 c = search needs
 
--- src/lib.rt:20:12
 shared-slice-read-if1 : tie.Need-shared-slice-read-if1 Inv-loop μ-loop
 shared-slice-read-if1 c = search needs
 
--- src/lib.rt:21:13
 returns : tie.Need-returns Inv-loop μ-loop
 returns c = zero-fails _ _ _ (c .before .before .before .loop .inv .0) (c .before .before .loop-test .taken) (c .if1 .taken)
 
--- src/lib.rt:23:9
 add-t : tie.Need-add-t Inv-loop μ-loop
 add-t c = search needs
 
--- src/lib.rt:19:5
 loop-less : tie.Need-loop-less Inv-loop μ-loop
 loop-less c = search needs
 
--- src/lib.rt:19:5
 loop-again : tie.Need-loop-again Inv-loop μ-loop
 loop-again c = (omega arith, zero-more _ _ _ (c .before .before .before .loop .inv .1) (c .if1 .left))
 
--- src/lib.rt:14:1
 returns-2 : tie.Need-returns-2 Inv-loop μ-loop
 returns-2 c = zero-end _ _ _ (c .loop-test .left) (c .before .loop .inv .1)
 

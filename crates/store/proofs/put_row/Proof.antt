@@ -1,69 +1,52 @@
+-- `store::put_row` meets its contract: the lent part comes back with r in its place.
+-- Assumes nothing.
 use Rattle.store.specs.Parts.{wordsIn, rowsIn}
 use Rattle.lists.specs.Parts.{part}
 use Rattle.store.proofs.Parts.{one-more, wrote}
 use borrow.Author.Needs.{needs}
-use native.Mathlib.Omega.{arith}
-use borrow.Author.Needs.{needs}
 use Rattle.store.proofs.put_row.Statement.{statement}
 use Rattle.store.proofs.put_row.Tie as tie
-use Rattle.store.proofs.put_row.Reads as reads
-use Rattle.store.proofs.put_row.Lts as lts
-use Rattle.rows.proofs.put.Reads as put-reads
 
--- src/lib.rt:48:21
 mul-to : tie.Need-mul-to
 mul-to c = search needs
 
--- src/lib.rt:48:14
 add-to : tie.Need-add-to
 add-to c = search needs
 
--- src/lib.rt:49:17
 mul-count : tie.Need-mul-count
 mul-count c = search needs
 
--- src/lib.rt:49:17
 slice-read-count : tie.Need-slice-read-count
 slice-read-count c = search needs
 
--- src/lib.rt:50:15
 mul-put : tie.Need-mul-put
 mul-put c = search needs
 
--- src/lib.rt:50:15
 sub-put : tie.Need-sub-put
 sub-put c = search needs
 
--- src/lib.rt:50:15
 part-put-start : tie.Need-part-put-start
 part-put-start c = search needs
 
--- src/lib.rt:50:15
 part-put-end : tie.Need-part-put-end
 part-put-end c = search needs
 
--- src/lib.rt:50:5
 put-requires : tie.Need-put-requires
 unfolding wordsIn part
 put-requires c κs = let st = c .before .before .before .before .before in (st .pre .0 .region, (one-more _ _ (st .pre .0) (st .pre .1 .0), st .pre .1 .1))
 
--- src/lib.rt:51:20
 add-store : tie.Need-add-store
 add-store c = search needs
 
--- src/lib.rt:51:5
 mul-store : tie.Need-mul-store
 mul-store c = search needs
 
--- src/lib.rt:51:5
 slice-write-store : tie.Need-slice-write-store
 slice-write-store c = search needs
 
--- src/lib.rt:39:1
 same-length : tie.Need-same-length
 same-length c = search needs
 
--- src/lib.rt:39:1
 returns : tie.Need-returns
 unfolding rowsIn wordsIn part
 returns c = let st = c .before .before .before .before .before .before .before .before in wrote _ _ (st .pre .0) _ _ _ (c .before .before .put .ensures) (c .before .before .put .kept .0)

@@ -1,57 +1,43 @@
+-- `store::replace_row` meets its contract: the lent part comes back with r over a row.
+-- Assumes nothing.
 use Rattle.store.specs.Parts.{wordsIn, rowsIn}
 use Rattle.lists.specs.Parts.{part}
 use Rattle.store.proofs.Parts.{wrote-as-many}
 use borrow.Author.Needs.{needs}
-use native.Mathlib.Omega.{arith}
-use borrow.Author.Needs.{needs}
 use Rattle.store.proofs.replace_row.Statement.{statement}
 use Rattle.store.proofs.replace_row.Tie as tie
-use Rattle.store.proofs.replace_row.Reads as reads
-use Rattle.store.proofs.replace_row.Lts as lts
-use Rattle.rows.proofs.replace.Reads as replace-reads
 
--- src/lib.rt:81:21
 mul-to : tie.Need-mul-to
 mul-to c = search needs
 
--- src/lib.rt:81:14
 add-to : tie.Need-add-to
 add-to c = search needs
 
--- src/lib.rt:82:17
 mul-count : tie.Need-mul-count
 mul-count c = search needs
 
--- src/lib.rt:82:17
 slice-read-count : tie.Need-slice-read-count
 slice-read-count c = search needs
 
--- src/lib.rt:83:19
 mul-replace : tie.Need-mul-replace
 mul-replace c = search needs
 
--- src/lib.rt:83:19
 sub-replace : tie.Need-sub-replace
 sub-replace c = search needs
 
--- src/lib.rt:83:19
 part-replace-start : tie.Need-part-replace-start
 part-replace-start c = search needs
 
--- src/lib.rt:83:19
 part-replace-end : tie.Need-part-replace-end
 part-replace-end c = search needs
 
--- src/lib.rt:83:5
 replace-requires : tie.Need-replace-requires
 unfolding rowsIn wordsIn part
 replace-requires c κs = let st = c .before .before .before .before .before in (st .pre .0 .region, (st .pre .1 .0, (st .pre .1 .1 .0, st .pre .1 .1 .1)))
 
--- src/lib.rt:71:1
 same-length : tie.Need-same-length
 same-length c = search needs
 
--- src/lib.rt:71:1
 returns : tie.Need-returns
 unfolding rowsIn wordsIn part
 returns c = let st = c .before .before .before .before .before .before .before .before in wrote-as-many _ _ (st .pre .0) _ _ (c .before .before .replace .ensures) (c .before .before .replace .kept .0)

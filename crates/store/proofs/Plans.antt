@@ -1,0 +1,71 @@
+-- The plan of a good sheet holds what the definitions say, part by part.
+-- Assumes nothing.
+use Prim.Native.Nat.{ℕ, _+_, _<_, _≤_}
+use mathlib.Core.Path.{_≡_, sym, ap, _∙_, subst}
+use mathlib.Core.Bool.{cond}
+use mathlib.Core.Logic.{⊎-elim}
+use native.Mathlib.Omega.{arith}
+use lib.Dec.{T, ltb}
+use lib.ListN.{length, getD}
+use Rattle.lists.specs.Lists.{Words}
+use Rattle.lists.proofs.Truth.{decided, cond-true, cond-false}
+use Rattle.meaning.specs.Sheet.{Sheet}
+use Rattle.meaning.specs.Plan.{kept, columns, storeLength}
+use Rattle.laws.proofs.Columns.{columns-side, shown-first}
+use Rattle.layout.specs.declared.Plan.{Plan}
+use Rattle.places.proofs.Parts.{start-after}
+use Rattle.store.specs.declared.Part.{Part}
+use Rattle.store.specs.Parts.{Lies, Within}
+use Rattle.store.specs.Plans.{GoodPlan, OfSheet, partOf}
+use Rattle.store.proofs.Lying.{lies-within}
+
+module _ (s : Sheet) (p : Plan) (plan : GoodPlan s p) where
+  pub tables-is : p .tables ≡ s .n
+  tables-is = plan .planned .tables-are
+
+  pub store-is : p .store ≡ storeLength s
+  store-is = plan .planned .store-is
+
+  pub marked : (t : ℕ) → t < s .n → (getD (p .kept) t 0 ≡ 0 → ⊥) → T (kept s t)
+  marked t l d = ⊎-elim (λ k. k) (λ k. absurd (d (plan .planned .kept-at t l ∙ cond-false (kept s t) 1 0 k))) (decided (kept s t))
+
+  pub unmarked : (t : ℕ) → t < s .n → getD (p .kept) t 0 ≡ 0 → T (kept s t) → ⊥
+  unmarked t l e k = let one-is : getD (p .kept) t 0 ≡ 1 = plan .planned .kept-at t l ∙ cond-true (kept s t) 1 0 k in omega arith
+
+  pub part-lies : (number : ℕ) → number ≤ s .n → Lies s number (partOf p number)
+  unfolding partOf
+  part-lies number l =
+      record {
+        number-in = l;
+        slot-is = ap (λ (n : ℕ). cond (ltb number n) number 8) tables-is;
+        start-is = plan .planned .starts-at number l;
+        columns-is = plan .planned .columns-at number l;
+        room-is = plan .planned .rooms-at number l;
+      }
+
+  -- a kept table has columns
+  pub kept-columns : (t : ℕ) → t < s .n → T (kept s t) → 0 < partOf p t .columns
+  unfolding partOf
+  kept-columns t l k =
+      let e = shown-first s (plan .good) t l in
+      omega (arith, part-lies t (omega arith) .columns-is, columns-side s t l k, ap length (e .1))
+
+-- What the code needs to know to be safe
+module _ (p : Plan) (of : OfSheet p) where
+  pub few : p .tables ≤ 8
+  few = of .is .planned .tables-few
+
+  pub nine : 9 ≤ p .store
+  unfolding storeLength
+  nine = omega (arith, store-is (of .sheet) p (of .is), start-after (of .sheet) (of .sheet .n + 1))
+
+  pub within-store : (number : ℕ) (q : Part) (ws : Words) → number ≤ p .tables → q ≡ partOf p number → length ws ≡ p .store → Within q ws
+  within-store number q ws l e long =
+      subst (λ (q : Part). Within q ws) (sym e)
+      (lies-within (of .sheet) number (partOf p number) (part-lies (of .sheet) p (of .is) number (omega (arith, tables-is (of .sheet) p (of .is))))
+      (of .is .good) ws (long ∙ store-is (of .sheet) p (of .is)))
+
+  pub has-columns : (t : ℕ) (q : Part) → t < p .tables → (getD (p .kept) t 0 ≡ 0 → ⊥) → q ≡ partOf p t → 0 < q .columns
+  has-columns t q l d e =
+      let i : t < of .sheet .n = omega (arith, tables-is (of .sheet) p (of .is)) in
+      rw e (kept-columns (of .sheet) p (of .is) t i (marked (of .sheet) p (of .is) t i d))

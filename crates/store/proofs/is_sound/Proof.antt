@@ -1,0 +1,48 @@
+-- `store::is_sound` meets its contract, test by test.
+-- Assumes nothing.
+use borrow.Author.Tests.{not-true, not-false}
+use Rattle.store.proofs.Plans.{few, nine, within-store}
+use Rattle.store.proofs.Whole.{long-fails, absent-fails, sides-fails, list-decides}
+use mathlib.Core.Path.{sym, _∙_}
+use mathlib.Core.Bool.{false≢true}
+use borrow.Author.Needs.{needs}
+use native.Mathlib.Omega.{arith}
+use Rattle.store.proofs.is_sound.Statement.{statement}
+use Rattle.store.proofs.is_sound.Tie as tie
+
+returns : tie.Need-returns
+returns c = long-fails _ _ (c .if1 .taken)
+
+absent-zero-requires : tie.Need-absent-zero-requires
+absent-zero-requires c κs = omega (arith, nine _ (c .before .before .before .pre))
+
+returns-2 : tie.Need-returns-2
+returns-2 c = absent-fails _ _ (sym (c .before .absent-zero .ensures) ∙ not-true _ (c .if2 .taken))
+
+sides-sound-requires : tie.Need-sides-sound-requires
+sides-sound-requires c κs = search needs
+
+returns-3 : tie.Need-returns-3
+returns-3 c = sides-fails _ _ _ (c .before .sides-sound .ensures) (not-true _ (c .if3 .taken))
+
+part-of-requires : tie.Need-part-of-requires
+part-of-requires c κs = (omega arith, few _ (c .before .before .before .before .before .before .before .pre))
+
+part-sound-requires : tie.Need-part-sound-requires
+part-sound-requires c κs = (within-store _ (c .before .before .before .before .before .before .before .before .pre) _ _ _ (omega arith) (c .part-of .ensures) (c .before .before .before .before .before .if1 .left), λ keyed. absurd (false≢true keyed))
+
+returns-4 : tie.Need-returns-4
+returns-4 c = list-decides _ _ _ _ _ (c .before .before .before .before .before .before .if1 .left) (sym (c .before .before .before .before .before .absent-zero .ensures) ∙ not-false _ (c .before .before .before .before .if2 .left)) (c .before .before .before .sides-sound .ensures) (not-false _ (c .before .before .if3 .left)) (c .before .part-of .ensures) (c .part-sound .ensures)
+
+pub is-sound-spec : {M : Type 1} → statement M
+is-sound-spec =
+    tie.close
+    (tie.spec
+    returns
+    absent-zero-requires
+    returns-2
+    sides-sound-requires
+    returns-3
+    part-of-requires
+    part-sound-requires
+    returns-4)

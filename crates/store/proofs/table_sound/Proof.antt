@@ -1,0 +1,44 @@
+-- `store::table_sound` meets its contract, for an unkept table and for a kept one.
+-- Assumes nothing.
+use Rattle.store.proofs.Plans.{few, nine, within-store, has-columns}
+use Rattle.store.proofs.Whole.{unkept-is, kept-is}
+use native.Mathlib.Omega.{arith}
+use Rattle.store.proofs.table_sound.Statement.{statement}
+use Rattle.store.proofs.table_sound.Tie as tie
+
+mul-if1 : tie.Need-mul-if1
+mul-if1 c = omega (arith, few _ (c .before .pre .0))
+
+element-copy-out-if1 : tie.Need-element-copy-out-if1
+element-copy-out-if1 c = omega (arith, few _ (c .before .pre .0))
+
+mul-result : tie.Need-mul-result
+mul-result c = omega (arith, few _ (c .before .before .before .pre .0))
+
+shared-slice-read-result : tie.Need-shared-slice-read-result
+shared-slice-read-result c = omega (arith, few _ (c .before .before .before .before .pre .0), nine _ (c .before .before .before .before .pre .0))
+
+returns : tie.Need-returns
+returns c = unkept-is _ _ _ (c .before .before .before .before .pre .1 .0) (c .before .if1 .taken)
+
+part-of-requires : tie.Need-part-of-requires
+part-of-requires c κs = (omega arith, few _ (c .before .before .before .pre .0))
+
+part-sound-requires : tie.Need-part-sound-requires
+part-sound-requires c κs = let st = c .before .before .before .before in (within-store _ (st .pre .0) _ _ _ (omega arith) (c .part-of .ensures) (st .pre .1 .1), λ keyed. has-columns _ (st .pre .0) _ _ (st .pre .1 .0) (c .before .if1 .left) (c .part-of .ensures))
+
+returns-2 : tie.Need-returns-2
+returns-2 c = kept-is _ _ _ _ _ (c .before .before .before .before .before .pre .1 .0) (c .before .before .if1 .left) (c .before .part-of .ensures) (c .part-sound .ensures)
+
+pub table-sound-spec : {M : Type 1} → statement M
+table-sound-spec =
+    tie.close
+    (tie.spec
+    mul-if1
+    element-copy-out-if1
+    mul-result
+    shared-slice-read-result
+    returns
+    part-of-requires
+    part-sound-requires
+    returns-2)
