@@ -2,7 +2,7 @@
 -- Assumes nothing.
 use Prim.Native.Nat.{ℕ, _<_}
 use mathlib.Core.Path.{_≡_, refl, sym, subst}
-use mathlib.Core.Bool.{Bool, true, not, _&&_, _||_}
+use mathlib.Core.Bool.{Bool, true, not, _&&_}
 use mathlib.Core.List.{[]}
 use mathlib.Core.Logic.{⊎-elim}
 use lib.Dec.{T}
@@ -11,14 +11,13 @@ use Rattle.lists.specs.Lists.{at, all}
 use Rattle.lists.specs.Loops.{every}
 use Rattle.lists.proofs.Truth.{Mem, isT, T→≡, eq→eqb, eqb→≡, same-test, decided, or-inl, or-inr, or-cases, and-fst, and-snd, and-both, not→F, F→not, all-get, all-make, mem-getD}
 use Rattle.lists.proofs.Loops.{every-at, every-from}
-use Rattle.rows.specs.Rows.{Row, hasKey}
+use Rattle.rows.specs.Rows.{Row}
 use Rattle.rows.proofs.Ranks.{mem-at}
 use Rattle.meaning.specs.Sheet.{Edge, Sheet, width}
 use Rattle.meaning.specs.Plan.{isPromised}
 use Rattle.meaning.specs.Base.{Tables, rowsOf, lawful}
 use Rattle.laws.proofs.Sheets.{Good}
-use Rattle.laws.proofs.Trees.{Promised}
-use Rattle.laws.proofs.Meanings.{Met, Lawful, lawful-get, lawful-make}
+use Rattle.laws.proofs.Meanings.{Met, lawful-get, lawful-make}
 use Rattle.filling.specs.Runs.{rowNo}
 use Rattle.filling.specs.Promises.{onceIn, metAt, keeps}
 

@@ -3,11 +3,11 @@
 use Prim.Native.Nat.{ℕ, _+_, _*_, _-_, _<_, _≤_}
 use mathlib.Core.Path.{_≡_, refl, sym, ap, _∙_}
 use mathlib.Core.Bool.{Bool, true, false, _&&_}
-use mathlib.Core.List.{[], _∷_, _++_}
+use mathlib.Core.List.{[], _∷_}
 use native.Mathlib.Nat.{zero-add, add-zero}
 use native.Mathlib.Numerals.{add-one}
 use native.Mathlib.Omega.{arith}
-use lib.Dec.{T, leb, eqb, leb→le}
+use lib.Dec.{eqb, leb→le}
 use lib.ListN.{length, getD, take, drop, take-append-drop}
 use lib.Seq.{getD-take, getD-drop}
 use Rattle.lists.specs.Lists.{Words, at, all}
