@@ -234,7 +234,7 @@ module _ (r : Row) (rows : Rows) (marks : Words) (u : T (rising rows)) (t : Tall
       let p = stays-at r marks rows h in
       let j : ℕ = p .0 in
       let g = equal-place r rows u j (p .1) (p .2) in
-      let ty = t r (omega (arith, g .0, g .1)) in
+      let ty = t .each r (omega (arith, g .0, g .1)) in
       let m : rank r rows + (j - rank r rows) ≡ j = omega (arith, g .0) in
       let le : at marks (rank r rows) ≤ j - rank r rows = not-marked (j - rank r rows) (rw m (p .3)) (ty .marked) (ltb (j - rank r rows) (at marks (rank r rows))) refl in
       let lt : at marks (rank r rows) < times r rows = omega (arith, g .0, g .1) in
@@ -263,7 +263,7 @@ at-stays r marks (q ∷ rows) (suc j) l e z = go (eqb (at marks 0) 0) (at-stays 
     go false ih = ih
 
 -- the next of the rows that equal r is row k
-module _ (r : Row) (rows : Rows) (marks : Words) (u : T (rising rows)) (t : Tallied rows marks) (fits : length rows ≤ length marks)
+module _ (r : Row) (rows : Rows) (marks : Words) (u : T (rising rows)) (t : Tallied rows marks)
     (f k : ℕ) (ef : f ≡ rank r rows) (ek : k ≡ f + at marks f) (l : k < length rows) (e : getD rows k [] ≡ r) where
   new : Words
   new = set (set marks k 1) f (at marks f + 1)
@@ -272,7 +272,7 @@ module _ (r : Row) (rows : Rows) (marks : Words) (u : T (rising rows)) (t : Tall
   more-left = omega (arith, equal-place r rows u k l e .1)
 
   its : Tally r rows marks
-  its = t r (omega (arith, more-left))
+  its = t .each r (omega (arith, more-left))
 
   free-at : (j : ℕ) → at marks f ≤ j → j < times r rows → at marks (f + j) ≡ 0
   free-at j h m = rw ef (its .free j (rw (← ef) h) m)
@@ -286,7 +286,7 @@ module _ (r : Row) (rows : Rows) (marks : Words) (u : T (rising rows)) (t : Tall
 
   new-first : at new f ≡ at marks f + 1
   unfolding new
-  new-first = getD-set-same (set marks k 1) f (at marks f + 1) 0 (simp length-set (omega arith))
+  new-first = getD-set-same (set marks k 1) f (at marks f + 1) 0 (simp length-set (omega (arith, t .enough)))
 
   new-next : at new k ≡ 0 → ⊥
   unfolding new
@@ -295,7 +295,7 @@ module _ (r : Row) (rows : Rows) (marks : Words) (u : T (rising rows)) (t : Tall
       go : (b : Bool) → eqb k f ≡ b → ⊥
       go true g = omega (arith, new-first, ap (at new) (eqb-true k f g))
       go false g =
-          let a : at new k ≡ 1 = getD-set-other (set marks k 1) f k (at marks f + 1) 0 (eqb-false k f g) ∙ getD-set-same marks k 1 0 (omega arith) in
+          let a : at new k ≡ 1 = getD-set-other (set marks k 1) f k (at marks f + 1) 0 (eqb-false k f g) ∙ getD-set-same marks k 1 0 (omega (arith, t .enough)) in
           omega arith
 
   -- the marks of rows that differ from r are as they were, and a mark but row k's is 0 if it was
@@ -337,7 +337,7 @@ module _ (r : Row) (rows : Rows) (marks : Words) (u : T (rising rows)) (t : Tall
   -- rows that equal another row stand elsewhere
   others-new : (q : Row) → (r ≡ q → ⊥) → 0 < times q rows → Tally q rows new
   others-new q d pos =
-      let ty = t q pos in
+      let ty = t .each q pos in
       let same : at new (rank q rows) ≡ at marks (rank q rows) = still (rank q rows) (omega arith) (omega arith) in
       record {
         within = rw same (ty .within);
@@ -358,7 +358,7 @@ module _ (r : Row) (rows : Rows) (marks : Words) (u : T (rising rows)) (t : Tall
       record {
         left = sym (T→≡ (hasRow r (unmarked marks rows)) (at-stays r marks rows k l e z));
         stay = mark-one r marks new rows k l e z new-next before-marked new-zero;
-        tallied = λ q pos. each q pos (decided (sameRow r q));
+        tallied = record { enough = simp length-set (t .enough); few = t .few; each = λ q pos. each q pos (decided (sameRow r q)) };
       }
     where
       each : (q : Row) → 0 < times q rows → T (sameRow r q) ⊎ (T (sameRow r q) → ⊥) → Tally q rows new
@@ -386,24 +386,29 @@ module _ (w n : ℕ) (r : Row) (s marks : Words) (u : T (rising (cut w n s))) (t
   pub mark-greater : (o : Order) → o ≡ rowOrder r (row w k s) → o ≡ Greater → Marking r (cut w n s) marks marks false
   mark-greater o g h = mark-other (order-greater-differs r (row w k s) (sym g ∙ h))
 
-  pub mark-here : (o : Order) → n ≤ length marks → k < n → o ≡ rowOrder r (row w k s) → o ≡ Equal
+  pub mark-here : (o : Order) → k < n → o ≡ rowOrder r (row w k s) → o ≡ Equal
       → Marking r (cut w n s) marks (set (set marks k 1) f (at marks f + 1)) true
-  mark-here o fits l g h =
-      mark-done r (cut w n s) marks u t (rw cut-length fits) f k ef ek (rw cut-length l)
+  mark-here o l g h =
+      mark-done r (cut w n s) marks u t f k ef ek (rw cut-length l)
       (cut-at w n s k l ∙ sym (order-equal r (row w k s) (sym g ∙ h)))
 
 -- before the first mark
-pub tallied-none : (rows : Rows) (k : ℕ) → Tallied rows (replicate k 0)
-tallied-none rows k r pos =
-    record {
-      within = omega (arith, zero-at (rank r rows));
-      marked = λ j h z. omega (arith, zero-at (rank r rows));
-      free = λ j h m. zero-at (rank r rows + j);
-    }
+zero-at : (k i : ℕ) → at (replicate k 0) i ≡ 0
+zero-at k i = go (ltb i k) refl
   where
-    zero-at : (i : ℕ) → at (replicate k 0) i ≡ 0
-    zero-at i = go (ltb i k) refl
-      where
-        go : (b : Bool) → ltb i k ≡ b → at (replicate k 0) i ≡ 0
-        go true e = getD-replicate k i 0 0 (ltb-true i k e)
-        go false e = List·getD-eq-default (replicate k 0) 0 (rw length-replicate (ltb-false i k e))
+    go : (b : Bool) → ltb i k ≡ b → at (replicate k 0) i ≡ 0
+    go true e = getD-replicate k i 0 0 (ltb-true i k e)
+    go false e = List·getD-eq-default (replicate k 0) 0 (rw length-replicate (ltb-false i k e))
+
+pub tallied-none : (w n : ℕ) (s : Words) (k : ℕ) → n ≤ k → n < 65536 → Tallied (cut w n s) (replicate k 0)
+tallied-none w n s k h l = record { enough = rw (cut-length, length-replicate) h; few = rw cut-length l; each = λ r pos. none r }
+  where
+    none : (r : Row) → Tally r (cut w n s) (replicate k 0)
+    none r = record {
+      within = omega (arith, zero-at k (rank r (cut w n s)));
+      marked = λ j h z. omega (arith, zero-at k (rank r (cut w n s)));
+      free = λ j h m. zero-at k (rank r (cut w n s) + j);
+    }
+
+pub enough : (w n : ℕ) (s marks : Words) → Tallied (cut w n s) marks → (n ≤ length marks) × (n < 65536)
+enough w n s marks t = (rw cut-length at (t .enough), rw cut-length at (t .few))

@@ -5,7 +5,7 @@ use mathlib.Core.Path.{_≡_}
 use mathlib.Core.Bool.{Bool, cond}
 use mathlib.Core.List.{[], _∷_}
 use lib.Dec.{eqb}
-use lib.ListN.{drop}
+use lib.ListN.{length, drop}
 use Rattle.lists.specs.Lists.{Words, at}
 use Rattle.rows.specs.Rows.{Row, Rows, hasRow, takeRow}
 use Rattle.rows.specs.Ranks.{rank, times}
@@ -21,8 +21,10 @@ pub record Tally (r : Row) (rows : Rows) (marks : Words) : Type 0 where
   pub marked : (j : ℕ) → j < at marks (rank r rows) → at marks (rank r rows + j) ≡ 0 → ⊥
   pub free : (j : ℕ) → at marks (rank r rows) ≤ j → j < times r rows → at marks (rank r rows + j) ≡ 0
 
-abbrev pub Tallied : Rows → Words → Type 0
-Tallied rows marks = (r : Row) → 0 < times r rows → Tally r rows marks
+pub record Tallied (rows : Rows) (marks : Words) : Type 0 where
+  pub enough : length rows ≤ length marks
+  pub few : length rows < 65536
+  pub each : (r : Row) → 0 < times r rows → Tally r rows marks
 
 -- What marking one more row that equals r does: it is among the rows that stay or it is not, and then it leaves them
 pub record Marking (r : Row) (rows : Rows) (old new : Words) (done : Bool) : Type 0 where
