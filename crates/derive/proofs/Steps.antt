@@ -9,16 +9,16 @@ use native.Mathlib.Numerals.{sub-one}
 use native.Mathlib.Omega.{arith}
 use lib.Dec.{T, eqb, ltb}
 use lib.ListN.{length}
-use borrow.Author.Tests.{eqb-true, eq-eqb, ne-eqb, lt-ltb, ltb-true}
+use borrow.Author.Tests.{eqb-true, eq-eqb, ne-eqb}
 use Rattle.lists.specs.Lists.{Words, at, all, any, select, member, upTo}
 use Rattle.lists.specs.Loops.{every, some, first}
 use Rattle.lists.proofs.Loops.{and-true}
-use Rattle.lists.proofs.Truth.{Mem, isT, T→≡, F→≡, same-test, mem-map, mem-upTo, select-mem, mem-select, upTo-mem, member→Mem, Mem→member, eq→eqb, eqb→≡, and-fst, and-snd, and-both}
+use Rattle.lists.proofs.Truth.{Mem, T→≡, F→≡, same-test, mem-map, mem-upTo, select-mem, member→Mem, Mem→member, eq→eqb, eqb→≡}
 use Rattle.meaning.specs.Sheet.{Edge, Sheet, sheetOf, goesInto, leaves, edgesInto, isRoot}
 use Rattle.meaning.specs.Plan.{root, edgeInto, others, isPromised, depPlus, depPlusIn, isListed, names, need, needIn, kept, isShown}
 use Rattle.words.specs.Numbered.{edgeNo, listingNo}
 use Rattle.words.specs.Tests.{listingNames}
-use Rattle.words.proofs.Numbers.{any-up, all-upTo, any-upTo, found, not-found, first-passes}
+use Rattle.words.proofs.Numbers.{member-chosen, any-up, all-upTo, any-upTo, found, not-found, first-passes}
 use Rattle.words.proofs.Words.{n-is, edges-are, listed-are}
 use Rattle.sheet.specs.Tree.{goesNo, Joined, GoodSheet}
 use Rattle.sheet.proofs.Into.{into-none, into-first, into-only}
@@ -137,12 +137,7 @@ module _ (ws : Words) (t i : ℕ) (e : i ≡ first (goesNo ws t) (at ws 1)) wher
 
 pub member-others : (s : Sheet) (t u : ℕ) → member u (others s t) ≡ (ltb u (s .n) && not (eqb u t))
 unfolding others
-member-others s t u =
-    same-test (member u (others s t)) (ltb u (s .n) && not (eqb u t))
-    (λ m. let x = mem-select (λ v. not (eqb v t)) (upTo (s .n)) u (member→Mem u (others s t) m) in
-    and-both (ltb u (s .n)) (not (eqb u t)) (isT (lt-ltb _ _ (upTo-mem (s .n) u (x .0)))) (x .1))
-    (λ m. Mem→member u (others s t) (select-mem (λ v. not (eqb v t)) (upTo (s .n)) u
-    (mem-upTo (s .n) u (ltb-true u (s .n) (T→≡ (ltb u (s .n)) (and-fst (ltb u (s .n)) (not (eqb u t)) m)))) (and-snd (ltb u (s .n)) (not (eqb u t)) m)))
+member-others s t u = member-chosen (λ v. not (eqb v t)) (s .n) u
 
 -- Need: no table is left, or t's key is listed
 pub need-end : (ws : Words) (t u left : ℕ) → left ≡ 0 → false ≡ needNo ws left t u

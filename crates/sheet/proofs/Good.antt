@@ -6,7 +6,7 @@ use mathlib.Core.Bool.{Bool, true, false, cond, _&&_}
 use native.Mathlib.Omega.{arith}
 use lib.Dec.{eqb, leb}
 use lib.ListN.{length}
-use borrow.Author.Tests.{eqb-true}
+use borrow.Author.Tests.{eqb-true, eqb-false}
 use Rattle.lists.specs.Lists.{Words, at, all, select, upTo}
 use Rattle.lists.specs.Loops.{every}
 use Rattle.lists.proofs.Loops.{and-true}
@@ -74,6 +74,14 @@ module _ (ws : Words) where
   pub zero-good : sheetRefusal ws ≡ 0 → verdictOf ws ≡ Good
   unfolding verdictOf
   zero-good h = rw h
+
+  pub refused-is : (k : ℕ) → verdictOf ws ≡ Refused k → (sheetRefusal ws ≡ k) × (k ≡ 0 → ⊥)
+  unfolding verdictOf
+  refused-is k h = go (eqb (sheetRefusal ws) 0) refl h
+    where
+      go : (b : Bool) → eqb (sheetRefusal ws) 0 ≡ b → cond b Good (Refused (sheetRefusal ws)) ≡ Refused k → (sheetRefusal ws ≡ k) × (k ≡ 0 → ⊥)
+      go true e q = absurd (let z : _≡_ {A = ℕ} 0 1 = cc in omega arith)
+      go false e q = let r : sheetRefusal ws ≡ k = cc in (r, λ z. eqb-false _ _ e (r ∙ z))
 
   pub number-is : numberOf (verdictOf ws) ≡ sheetRefusal ws
   unfolding verdictOf

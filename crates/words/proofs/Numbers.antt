@@ -8,10 +8,13 @@ use native.Mathlib.Nat.{add-zero, add-suc, suc-add, zero-add, le-antisymm}
 use native.Mathlib.Numerals.{add-one}
 use native.Mathlib.Omega.{arith}
 use lib.ListN.{length, length-append}
-use Rattle.lists.specs.Lists.{all, any, select, noneTwice, from, upTo}
+use Rattle.lists.specs.Lists.{all, any, select, noneTwice, from, upTo, member}
 use Rattle.lists.specs.Totals.{one}
 use Rattle.lists.specs.Loops.{every, some, first}
 use Rattle.lists.proofs.Loops.{first-none}
+use Rattle.lists.proofs.Truth.{isT, T→≡, same-test, and-fst, and-snd, and-both, mem-select, select-mem, mem-upTo, upTo-mem, member→Mem, Mem→member}
+use borrow.Author.Tests.{lt-ltb, ltb-true}
+use lib.Dec.{ltb}
 use Rattle.words.specs.Counted.{counted}
 
 pub from-more : (i k : ℕ) → from i (suc k) ≡ from i k ++ ((i + k) ∷ [])
@@ -178,3 +181,10 @@ any-upTo p k = ap (any p) (sym (map-id (upTo k))) ∙ any-up p (λ i. i) k
 
 pub length-upTo : (p : ℕ → Bool) (k : ℕ) → length (select p (upTo k)) ≡ counted p k
 length-upTo p k = ap (λ (l : List ℕ). length (select p l)) (sym (map-id (upTo k))) ∙ length-up p (λ i. i) k
+
+-- c is among the numbers below w that pass
+pub member-chosen : (p : ℕ → Bool) (w c : ℕ) → member c (select p (upTo w)) ≡ (ltb c w && p c)
+member-chosen p w c =
+    same-test (member c (select p (upTo w))) (ltb c w && p c)
+    (λ m. let x = mem-select p (upTo w) c (member→Mem c (select p (upTo w)) m) in and-both (ltb c w) (p c) (isT (lt-ltb c w (upTo-mem w c (x .0)))) (x .1))
+    (λ m. Mem→member c (select p (upTo w)) (select-mem p (upTo w) c (mem-upTo w c (ltb-true c w (T→≡ (ltb c w) (and-fst (ltb c w) (p c) m)))) (and-snd (ltb c w) (p c) m)))
