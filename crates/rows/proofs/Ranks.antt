@@ -195,48 +195,44 @@ module _ (w n p k : ℕ) (s : Words) (u : T (rising (cut w n s))) (e : p ≡ ran
   pub key-other : 0 < w → (at s (p * w) ≡ k → ⊥) → Missing ≡ foundKey k (cut w n s)
   key-other pos f = key-no (λ l q. f (sym (row-key w p s pos) ∙ q))
 
--- What `find` and `find_key` say to their callers
-at-if : (b : Bool) (i k : ℕ) → At i ≡ cond b (At k) Missing → (b ≡ true) × (i ≡ k)
-at-if true i k e = (refl, cc)
-at-if false i k e = let z : _≡_ {A = ℕ} 0 1 = cc in absurd (omega arith)
+-- What `find` and `find_key` say to their callers: i is the place, one of n, and what is looked for stands there
+pub record Standing (found : Bool) (k n : ℕ) (P : ℕ → Type 0) (i : ℕ) : Type 0 where
+  pub has : T found
+  pub place : i ≡ k
+  pub below : i < n
+  pub there : P i
 
-missing-if : (b : Bool) (k : ℕ) → Missing ≡ cond b (At k) Missing → b ≡ false
-missing-if true k e = let z : _≡_ {A = ℕ} 0 1 = cc in absurd (omega arith)
-missing-if false k e = refl
+standing : (b : Bool) (k n : ℕ) (P : ℕ → Type 0) (i : ℕ) → (T b → (k < n) × P k) → At i ≡ cond b (At k) Missing → Standing b k n P i
+standing true k n P i h e =
+    let q : i ≡ k = cc in
+    record { has = tt; place = q; below = rw q (h tt .0); there = subst P (sym q) (h tt .1) }
+standing false k n P i h e = let z : _≡_ {A = ℕ} 0 1 = cc in absurd (omega arith)
 
-pub record There (r : Row) (rows : Rows) (i : ℕ) : Type 0 where
-  pub has : T (hasRow r rows)
-  pub place : i ≡ rank r rows
-  pub below : i < length rows
-  pub there : getD rows i [] ≡ r
+missing : (b : Bool) (k : ℕ) → Missing ≡ cond b (At k) Missing → b ≡ false
+missing true k e = let z : _≡_ {A = ℕ} 0 1 = cc in absurd (omega arith)
+missing false k e = refl
+
+abbrev pub There : Row → Rows → ℕ → Type 0
+There r rows i = Standing (hasRow r rows) (rank r rows) (length rows) (λ j. getD rows j [] ≡ r) i
 
 pub found-row : (r : Row) (rows : Rows) (i : ℕ) → T (rising rows) → At i ≡ foundRow r rows → There r rows i
 unfolding foundRow
-found-row r rows i u e =
-    let f = at-if (hasRow r rows) i (rank r rows) e in
-    let p = rank-at r rows u (isT (f .0)) in
-    record { has = isT (f .0); place = f .1; below = omega (arith, p .0, f .1); there = rw (f .1) (p .1) }
+found-row r rows i u e = standing (hasRow r rows) (rank r rows) (length rows) (λ j. getD rows j [] ≡ r) i (rank-at r rows u) e
 
 pub missing-row : (r : Row) (rows : Rows) → Missing ≡ foundRow r rows → hasRow r rows ≡ false
 unfolding foundRow
-missing-row r rows e = missing-if (hasRow r rows) (rank r rows) e
+missing-row r rows e = missing (hasRow r rows) (rank r rows) e
 
-pub record ThereKey (k : ℕ) (rows : Rows) (i : ℕ) : Type 0 where
-  pub has : T (hasKey k rows)
-  pub place : i ≡ rankKey k rows
-  pub below : i < length rows
-  pub there : key (getD rows i []) ≡ k
+abbrev pub ThereKey : ℕ → Rows → ℕ → Type 0
+ThereKey k rows i = Standing (hasKey k rows) (rankKey k rows) (length rows) (λ j. key (getD rows j []) ≡ k) i
 
 pub found-key : (k : ℕ) (rows : Rows) (i : ℕ) → T (rising rows) → At i ≡ foundKey k rows → ThereKey k rows i
 unfolding foundKey
-found-key k rows i u e =
-    let f = at-if (hasKey k rows) i (rankKey k rows) e in
-    let p = rankKey-at k rows u (isT (f .0)) in
-    record { has = isT (f .0); place = f .1; below = omega (arith, p .0, f .1); there = rw (f .1) (p .1) }
+found-key k rows i u e = standing (hasKey k rows) (rankKey k rows) (length rows) (λ j. key (getD rows j []) ≡ k) i (rankKey-at k rows u) e
 
 pub missing-key : (k : ℕ) (rows : Rows) → Missing ≡ foundKey k rows → hasKey k rows ≡ false
 unfolding foundKey
-missing-key k rows e = missing-if (hasKey k rows) (rankKey k rows) e
+missing-key k rows e = missing (hasKey k rows) (rankKey k rows) e
 
 -- a row stands among rows if it does at all so often
 pub has-times : (r : Row) (rows : Rows) → hasRow r rows ≡ ltb 0 (times r rows)

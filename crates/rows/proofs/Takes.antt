@@ -4,21 +4,22 @@ use Prim.Native.Nat.{ℕ, suc, _+_, _-_, _<_, _≤_, zero-le, suc-le-suc}
 use mathlib.Core.Path.{_≡_, refl, sym, ap, ap₂, _∙_, subst}
 use mathlib.Core.Bool.{Bool, true, false, cond, not, _&&_}
 use mathlib.Core.List.{[], _∷_, _++_}
+use native.Mathlib.Nat.{add-comm}
 use native.Mathlib.Omega.{arith}
 use lib.Dec.{T, eqb}
-use lib.ListN.{length, getD, drop}
+use lib.ListN.{length, getD, drop, replicate}
 use borrow.Author.Tests.{lt-ltb}
 use Rattle.lists.specs.Lists.{Words, at, all, any, select}
 use Rattle.lists.specs.Totals.{total, one, Same}
 use Rattle.lists.proofs.Truth.{isT, same-test, and-fst, and-snd, and-both}
-use Rattle.lists.proofs.Totals.{total-cons, total-length, all-of}
-use Rattle.rows.specs.Rows.{Row, Rows, sameRow, notAfter, rising, putRow, putRows, hasRow, hasRows, takeRow, takeRows}
+use Rattle.lists.proofs.Totals.{total-cons, total-append, total-none, total-length, all-of}
+use Rattle.rows.specs.Rows.{Row, Rows, cut, sameRow, notAfter, rising, putRow, putRows, hasRow, hasRows, takeRow, takeRows}
 use Rattle.rows.specs.Ranks.{times}
-use Rattle.rows.specs.Marks.{unmarked}
+use Rattle.rows.specs.Marks.{unmarked, Tallied, Marking}
 use Rattle.rows.proofs.Ordered.{same→≡, same-refl}
-use Rattle.rows.proofs.Sorted.{rising-first, rising-rest, rising-cons, rising-takes, all-takeRow, total-put, total-puts, same-times, same-rising, same-takes}
+use Rattle.rows.proofs.Sorted.{rising-first, rising-rest, rising-cons, rising-takes, all-takeRow, total-put, total-puts, same-times, same-rising, same-takes, puts-same}
 use Rattle.rows.proofs.Ranks.{has-times}
-use Rattle.rows.proofs.Marks.{at-next}
+use Rattle.rows.proofs.Marks.{at-next, unmarked-none, tallied-none}
 
 -- How often a row is left
 pub times-take : (q r : Row) (rows : Rows) → times q (takeRow r rows) ≡ times q rows - one (sameRow q r)
@@ -76,18 +77,22 @@ unfolding takeRows
 takes-snoc [] r rows = refl
 takes-snoc (x ∷ xs) r rows = takes-snoc xs r (takeRow x rows)
 
-pub has-snoc : (xs : Rows) (r : Row) (rows : Rows) → hasRows (xs ++ (r ∷ [])) rows ≡ (hasRows xs rows && hasRow r (takeRows xs rows))
+pub has-append : (xs ys rows : Rows) → hasRows (xs ++ ys) rows ≡ (hasRows xs rows && hasRows ys (takeRows xs rows))
 unfolding takeRows hasRows
-has-snoc [] r rows = last (hasRow r rows)
-  where
-    last : (b : Bool) → (b && true) ≡ (true && b)
-    last true = refl
-    last false = refl
-has-snoc (x ∷ xs) r rows = ap (λ b. hasRow x rows && b) (has-snoc xs r (takeRow x rows)) ∙ assoc (hasRow x rows) (hasRows xs (takeRow x rows)) (hasRow r (takeRows xs (takeRow x rows)))
+has-append [] ys rows = refl
+has-append (x ∷ xs) ys rows = ap (λ b. hasRow x rows && b) (has-append xs ys (takeRow x rows)) ∙ assoc (hasRow x rows) (hasRows xs (takeRow x rows)) (hasRows ys (takeRows xs (takeRow x rows)))
   where
     assoc : (a b c : Bool) → (a && (b && c)) ≡ ((a && b) && c)
     assoc true b c = refl
     assoc false b c = refl
+
+pub has-snoc : (xs : Rows) (r : Row) (rows : Rows) → hasRows (xs ++ (r ∷ [])) rows ≡ (hasRows xs rows && hasRow r (takeRows xs rows))
+unfolding hasRows
+has-snoc xs r rows = has-append xs (r ∷ []) rows ∙ ap (λ b. hasRows xs rows && b) (last (hasRow r (takeRows xs rows)))
+  where
+    last : (b : Bool) → (b && true) ≡ b
+    last true = refl
+    last false = refl
 
 -- Lengths
 pub length-puts : (xs rows : Rows) → length (putRows xs rows) ≡ length xs + length rows
@@ -152,3 +157,41 @@ unfolding unmarked
 unmarked-select p marks [] h = refl
 unmarked-select p marks (r ∷ rows) h =
     rw (h 0 (suc-le-suc zero-le), unmarked-select p (drop 1 marks) rows (λ i l. rw (at-next marks i) (h (suc i) (suc-le-suc l))))
+
+-- Rows put in one by one
+pub puts-snoc : (xs : Rows) (r : Row) (rows : Rows) → T (rising rows) → putRow r (putRows xs rows) ≡ putRows (xs ++ (r ∷ [])) rows
+unfolding putRows
+puts-snoc xs r rows u = puts-same (r ∷ xs) (xs ++ (r ∷ [])) rows u (λ f. total-cons f r xs ∙ add-comm (f r) (total f xs) ∙ ap (λ k. total f xs + k) (sym (last f)) ∙ sym (total-append f xs (r ∷ [])))
+  where
+    last : (f : Row → ℕ) → total f (r ∷ []) ≡ f r
+    last f = total-cons f r [] ∙ omega (arith, total-none f [] (λ x m. absurd m))
+
+-- Rows marked one by one: those done leave, each as often as it was marked
+pub record Taken (done rows : Rows) (marks : Words) : Type 0 where
+  pub stay : unmarked marks rows ≡ takeRows done rows
+  pub there : T (hasRows done rows)
+  pub tallied : Tallied rows marks
+
+pub taken-start : (w n : ℕ) (s : Words) (k : ℕ) → n ≤ k → n < 65536 → Taken [] (cut w n s) (replicate k 0)
+unfolding takeRows hasRows
+taken-start w n s k h l = record { stay = unmarked-none k (cut w n s); there = tt; tallied = tallied-none w n s k h l }
+
+pub taken-more : (done : Rows) (r : Row) (rows : Rows) (old new : Words) → Taken done rows old → Marking r rows old new true → Taken (done ++ (r ∷ [])) rows new
+taken-more done r rows old new t m =
+    let left : true ≡ hasRow r (takeRows done rows) = m .left ∙ ap (hasRow r) (t .stay) in
+    record {
+      stay = m .stay ∙ ap (takeRow r) (t .stay) ∙ sym (takes-snoc done r rows);
+      there = subst T (sym (has-snoc done r rows)) (and-both (hasRows done rows) (hasRow r (takeRows done rows)) (t .there) (isT (sym left)));
+      tallied = m .tallied;
+    }
+
+pub taken-fails : (done : Rows) (r : Row) (rest rows : Rows) (old new : Words) → Taken done rows old → Marking r rows old new false
+    → hasRows (done ++ (r ∷ rest)) rows ≡ false
+unfolding hasRows
+taken-fails done r rest rows old new t m =
+    let left : false ≡ hasRow r (takeRows done rows) = m .left ∙ ap (hasRow r) (t .stay) in
+    has-append done (r ∷ rest) rows ∙ rw (← left) (and-false (hasRows done rows))
+  where
+    and-false : (b : Bool) → (b && false) ≡ false
+    and-false true = refl
+    and-false false = refl
