@@ -66,13 +66,13 @@ shared-slice-read-count : tie.Need-shared-slice-read-count
 shared-slice-read-count c = omega (arith, kept (c .before) .within .counted, kept (c .before) .within .behind, kept (c .before) .within .ends)
 
 mul-to : tie.Need-mul-to
-mul-to c = omega (arith, stretch-ends _ _ (kept (c .before .before)))
+mul-to c = let k = kept (c .before .before) in omega (arith, stretch-ends _ _ k, k .within .ends)
 
 add-to : tie.Need-add-to
-add-to c = omega (arith, stretch-ends _ _ (kept (c .before .before)))
+add-to c = let k = kept (c .before .before) in omega (arith, stretch-ends _ _ k, k .within .ends)
 
 mul-result : tie.Need-mul-result
-mul-result c = omega (arith, stretch-ends _ _ (kept (c .before .before)))
+mul-result c = let k = kept (c .before .before) in omega (arith, stretch-ends _ _ k, k .within .ends)
 
 sub-result : tie.Need-sub-result
 sub-result c = search needs
@@ -81,7 +81,7 @@ part-result-start : tie.Need-part-result-start
 part-result-start c = search needs
 
 part-result-end : tie.Need-part-result-end
-part-result-end c = omega (arith, stretch-ends _ _ (kept (c .before .before)))
+part-result-end c = let k = kept (c .before .before) in omega (arith, stretch-ends _ _ k, k .within .ends)
 
 returns-5 : tie.Need-returns-5
 unfolding part
