@@ -6,14 +6,14 @@ use Rattle.lists.specs.Lists.{flat}
 use Rattle.text.specs.Reading.{Text, readText}
 use Rattle.text.specs.Printing.{planText}
 use Rattle.text.specs.Readers.{fresh, afterBytes, afterChunks}
-use Rattle.text.specs.Outcomes.{planFor, planOfText, printed, reply}
+use Rattle.text.specs.Outcomes.{planFor, planOfText, printed, replyTo}
 use Rattle.text.proofs.Bytes.{any-chunks}
 use Rattle.text.proofs.Texts.{reads}
 use Rattle.text.proofs.Lengths.{first-enough}
 
-pub replies : (text : Text) → reply (afterBytes fresh text) ≡ printed text
-unfolding reply printed planOfText
+pub replies : (text : Text) → replyTo (afterBytes fresh text) ≡ printed text
+unfolding replyTo printed planOfText
 replies text = ap (λ r. planText (planFor r)) (reads text) ∙ ap planText (first-enough (readText text))
 
-pub chunks-reply : (chunks : List Text) → reply (afterChunks fresh chunks) ≡ printed (flat chunks)
-chunks-reply chunks = ap reply (any-chunks chunks fresh) ∙ replies (flat chunks)
+pub chunks-reply : (chunks : List Text) → replyTo (afterChunks fresh chunks) ≡ printed (flat chunks)
+chunks-reply chunks = ap replyTo (any-chunks chunks fresh) ∙ replies (flat chunks)
