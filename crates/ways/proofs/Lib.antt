@@ -3,3 +3,5 @@ pub mod Grounds
 pub mod Treks
 pub mod Entries
 pub mod Tests
+pub mod Climbing
+pub mod Laddering
