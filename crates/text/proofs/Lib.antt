@@ -5,3 +5,4 @@ pub mod Writes
 pub mod Sets
 pub mod Lines
 pub mod Answers
+pub mod Laid

@@ -123,3 +123,7 @@ module _ (s s′ : List ℕ) (at n end : ℕ) where
 
   pub tens-fit : 10 ≤ n → n < 2 ^ 64 → Wrote s at (decimal (n / 10)) s′ end → at + 20 ≤ length s → end < length s′
   tens-fit h l w f = omega (arith, w .end-is, wrote-length w, tens-short n h l)
+
+-- the same bytes by another name
+pub wrote-as : {s s′ : List ℕ} {at at′ : ℕ} {xs ys : Text} → xs ≡ ys → Wrote s at xs s′ at′ → Wrote s at ys s′ at′
+wrote-as e w = rw e at w

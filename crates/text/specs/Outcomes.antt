@@ -18,5 +18,5 @@ unfoldable pub printed : Text → Text
 printed text = planText (planOfText text)
 
 -- what it prints by what a reader has read, once the text has ended
-unfoldable pub reply : Reader → Text
-reply r = planText (planFor (readingOf (finished r)))
+unfoldable pub replyTo : Reader → Text
+replyTo r = planText (planFor (readingOf (finished r)))

@@ -1,11 +1,14 @@
 // The text of a plan, written into a lent buffer.
+use plans::PlanAnswer;
 ghost use mathlib.Core.Path.{_≡_};
 ghost use mathlib.Core.List.{_++_};
 ghost use Prim.Native.Nat.{ℕ, _+_, _*_, _≤_, _<_};
 ghost use lib.Dec.{ltb};
 ghost use lib.ListN.{length};
-ghost use Rattle.text.specs.Printing.{decimal, memberText, setText, setsText, lineText, headText, refusedText, linesUpTo};
-ghost use Rattle.text.specs.Marks.{markedIn, lineOf};
+ghost use Rattle.text.specs.Printing.{decimal, memberText, setText, setsText, lineText, headText, refusedText, linesUpTo, planText};
+ghost use Rattle.meaning.specs.Plan.{plan};
+ghost use Rattle.layout.specs.Marks.{markedIn};
+ghost use Rattle.text.specs.Laid.{lineOf, answerText};
 ghost use Rattle.text.specs.Writing.{Wrote};
 
 // Writes the bytes from `at` on, and answers where they end.
@@ -142,6 +145,7 @@ fn put_head(root: u64, store: u64, out: &mut [u8], at: usize) -> usize
 fn put_refused(number: u64, out: &mut [u8], at: usize) -> usize
     requires { ⌜ at + 29 ≤ length (now out) ⌝ }
     ensures { λ r. ⌜ Wrote (now (out .entry)) at (refusedText number) (now (out .exit)) r ⌝ }
+    ensures { λ r. ⌜ r ≤ at + 29 ⌝ }
 {
     let a = put_field(b"refused ", number, out, at);
     put(b"\n", out, a)
@@ -159,6 +163,7 @@ fn put_lines(
 ) -> usize
     requires { ⌜ (n ≤ length (now kept)) × ((8 * n ≤ length (now columns)) × ((8 * n ≤ length (now dep)) × ((8 * n ≤ length (now need)) × (at + 115 * n ≤ length (now out))))) ⌝ }
     ensures { λ r. ⌜ Wrote (now (out .entry)) at (linesUpTo (lineOf (now (kept .entry)) (now (columns .entry)) (now (dep .entry)) (now (need .entry))) n) (now (out .exit)) r ⌝ }
+    ensures { λ r. ⌜ r ≤ at + 115 * n ⌝ }
 {
     let mut end = at;
     let mut t = 0;
@@ -167,4 +172,38 @@ fn put_lines(
         t += 1;
     }
     end
+}
+
+// Writes the text of the plan call's answer: 57 bytes at most, and 115 for each of eight tables.
+fn put_plan(a: PlanAnswer, out: &mut [u8]) -> usize
+    requires { ⌜ (a .tables ≤ 8) × (1024 ≤ length (now out)) ⌝ }
+    ensures { λ r. ⌜ Wrote (now (out .entry)) 0 (answerText a) (now (out .exit)) r ⌝ }
+    ensures { λ r. ⌜ r ≤ 1024 ⌝ }
+{
+    if a.number != 0 {
+        return put_refused(a.number, out, 0);
+    }
+    let kept = a.kept;
+    let columns = a.columns;
+    let dep = a.dep;
+    let need = a.need;
+    let end = put_head(a.root as u64, a.store as u64, out, 0);
+    put_lines(a.tables, &kept, &columns, &dep, &need, out, end)
+}
+
+// Writes the plan of any words, or `refused` and the number. There is room for every plan.
+pub fn put_plan_of(sheet: &[u64], out: &mut [u8; 1024]) -> usize
+    ensures { λ r. ⌜ Wrote (now (out .entry)) 0 (planText (plan (now (sheet .entry)))) (now (out .exit)) r ⌝ }
+    ensures { λ r. ⌜ r ≤ 1024 ⌝ }
+{
+    let a = plans::plan_of(sheet);
+    put_plan(a, out)
+}
+
+// Writes the refusal of a text that isn't such numbers.
+pub fn put_unread(out: &mut [u8; 1024]) -> usize
+    ensures { λ r. ⌜ Wrote (now (out .entry)) 0 (refusedText 1) (now (out .exit)) r ⌝ }
+    ensures { λ r. ⌜ r ≤ 1024 ⌝ }
+{
+    put_refused(1, out, 0)
 }

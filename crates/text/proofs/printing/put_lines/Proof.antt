@@ -3,10 +3,9 @@
 use Prim.Native.Nat.{_+_, _*_, _≤_, _-_}
 use mathlib.Core.Path.{_≡_, refl}
 use lib.ListN.{length}
-use Rattle.text.specs.Marks.{lineOf}
+use Rattle.text.specs.Laid.{lineOf}
 use Rattle.text.specs.Printing.{linesUpTo}
 use Rattle.text.specs.Writing.{Wrote}
-use Rattle.text.proofs.Writes.{wrote-length}
 use Rattle.text.proofs.Lines.{lines-none, lines-more, lines-end}
 use borrow.Author.Needs.{needs}
 use native.Mathlib.Omega.{arith}
@@ -45,7 +44,7 @@ same-length : tie.Need-same-length Inv-loop μ-loop
 same-length c = c .before .loop .inv .1
 
 returns : tie.Need-returns Inv-loop μ-loop
-returns c = lines-end _ _ _ _ _ _ _ (c .before .loop .inv .0) (c .loop-test .left) (c .before .loop .inv .3)
+returns c = (lines-end _ _ _ _ _ _ _ (c .before .loop .inv .0) (c .loop-test .left) (c .before .loop .inv .3), omega arith)
 
 pub put-lines-spec : {M : Type 1} → statement M
 put-lines-spec =

@@ -3,6 +3,7 @@
 use Rattle.text.proofs.Writes.{wrote-then}
 use Rattle.text.specs.Printing.{refusedText}
 use borrow.Author.Needs.{needs}
+use native.Mathlib.Omega.{arith}
 use Rattle.text.proofs.printing.put_refused.Statement.{statement}
 use Rattle.text.proofs.printing.put_refused.Tie as tie
 
@@ -23,7 +24,7 @@ same-length c = search needs
 
 returns : tie.Need-returns
 unfolding refusedText
-returns c = wrote-then (c .before .before .before .before .before .before .before .put-field .ensures .0) (c .before .before .put .ensures)
+returns c = (wrote-then (c .before .before .before .before .before .before .before .put-field .ensures .0) (c .before .before .put .ensures), omega (arith, c .before .before .put .ensures .end-is))
 
 pub put-refused-spec : {M : Type 1} → statement M
 put-refused-spec =
