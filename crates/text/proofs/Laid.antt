@@ -1,7 +1,7 @@
 -- The text of the plan call's answer is the text of document 01's plan: the marks lose nothing of a rising set.
 -- Assumes nothing.
 use Prim.Native.Nat.{ℕ, _+_, _*_, _/_, _%_, _≤_, _<_}
-use mathlib.Core.Path.{_≡_, refl, sym, ap, ap₂, _∙_}
+use mathlib.Core.Path.{_≡_, refl, sym, ap, _∙_}
 use mathlib.Core.Bool.{Bool, true, false, cond, _&&_}
 use mathlib.Core.List.{List, [], _++_}
 use native.Mathlib.Omega.{arith}
@@ -10,30 +10,21 @@ use lib.ListN.{length, getD, replicate}
 use borrow.Author.Tests.{eqb-true, eq-eqb, ne-eqb}
 use Rattle.lists.specs.Lists.{Words, select, member, upTo}
 use Rattle.lists.specs.Totals.{one}
-use Rattle.lists.specs.Loops.{filled}
 use Rattle.lists.proofs.Loops.{getD-filled}
-use Rattle.lists.proofs.Truth.{isT, T→≡, same-test, and-fst, and-snd, and-both, mem-select, select-mem, select-same, mem-upTo, upTo-mem, member→Mem, Mem→member}
+use Rattle.lists.proofs.Truth.{select-same, upTo-mem}
 use Rattle.meaning.specs.Sheet.{Sheet, sheetOf, sheetRefusal, width}
 use Rattle.meaning.specs.Plan.{TablePlan, kept, isShown, shown, inOrder, tablePlan, goodPlan, noPlan, plan, dep, need}
 use Rattle.laws.proofs.Lists.{at-upTo, length-upTo}
-use Rattle.laws.proofs.Numbers.{plan-number}
 use Rattle.laws.proofs.Sheets.{Good, good-sheet}
+use Rattle.words.proofs.Numbers.{member-chosen}
 use Rattle.layout.specs.Marks.{marked, markedIn}
 use Rattle.layout.proofs.Chosen.{select-narrow}
 use Rattle.plans.specs.Answers.{noTable, tableNo, setsOf, numbersOf, laid}
 use Rattle.plans.specs.declared.PlanAnswer.{PlanAnswer}
-use Rattle.text.specs.Reading.{Text}
 use Rattle.text.specs.Printing.{lineText, tableText, headText, refusedText, tablesText, linesUpTo, planText}
 use Rattle.text.specs.Laid.{lineOf, answerText}
 use Rattle.text.proofs.Bytes.{passed, failing}
 use Rattle.text.proofs.Lines.{tables-lines, lines-same}
-use borrow.Author.Tests.{lt-ltb, ltb-true}
-
-member-chosen : (p : ℕ → Bool) (w c : ℕ) → member c (select p (upTo w)) ≡ (ltb c w && p c)
-member-chosen p w c =
-    same-test (member c (select p (upTo w))) (ltb c w && p c)
-    (λ m. let x = mem-select p (upTo w) c (member→Mem c (select p (upTo w)) m) in and-both (ltb c w) (p c) (isT (lt-ltb c w (upTo-mem w c (x .0)))) (x .1))
-    (λ m. Mem→member c (select p (upTo w)) (select-mem p (upTo w) c (mem-upTo w c (ltb-true c w (T→≡ (ltb c w) (and-fst (ltb c w) (p c) m)))) (and-snd (ltb c w) (p c) m)))
 
 -- a mark tells whether the number is in the set
 mark-is : (f : ℕ → List ℕ) (t x : ℕ) → t < 8 → x < 8 → marked (setsOf f) t x ≡ member x (f t)

@@ -1,10 +1,10 @@
 -- Laws of the text of a set: its numbers one by one, after a comma or as the first, and `-` for none.
 -- Assumes nothing.
-use Prim.Native.Nat.{ℕ, zero, suc, _+_, _*_, _≤_, _<_}
+use Prim.Native.Nat.{ℕ, _+_, _*_, _≤_, _<_}
 use mathlib.Core.Path.{_≡_, refl, sym, ap, _∙_}
 use mathlib.Core.Bool.{Bool, true, false, cond}
 use mathlib.Core.List.{List, [], _∷_, _++_, append-nil, append-assoc}
-use native.Mathlib.Nat.{add-suc, suc-add, add-zero, zero-add, le-antisymm}
+use native.Mathlib.Nat.{add-zero, zero-add, le-antisymm}
 use native.Mathlib.Numerals.{add-one}
 use native.Mathlib.Omega.{arith}
 use lib.Dec.{ltb}
@@ -12,14 +12,11 @@ use lib.ListN.{length, set, length-append}
 use borrow.Author.Tests.{lt-ltb, le-ltb}
 use Rattle.lists.specs.Lists.{select, from, upTo}
 use Rattle.laws.proofs.Lists.{select-append}
+use Rattle.words.proofs.Numbers.{from-more}
 use Rattle.text.specs.Reading.{isSome}
 use Rattle.text.specs.Printing.{decimal, commas, parted, setText, memberText}
 use Rattle.text.specs.Writing.{Wrote}
 use Rattle.text.proofs.Writes.{decimal-digit, decimal-some, wrote-digit, wrote-none, wrote-then, wrote-byte, wrote-length}
-
-from-more : (i k : ℕ) → from i (suc k) ≡ from i k ++ ((i + k) ∷ [])
-from-more i zero = rw add-zero
-from-more i (suc k) = ap (λ l. i ∷ l) (from-more (suc i) k ∙ rw (suc-add, add-suc))
 
 -- the numbers below k + 1 that pass
 select-more : (p : ℕ → Bool) (k : ℕ) → select p (upTo (k + 1)) ≡ select p (upTo k) ++ cond (p k) (k ∷ []) []

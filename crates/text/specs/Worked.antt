@@ -3,8 +3,7 @@
 use Prim.Native.String.{String}
 use mathlib.Core.Path.{_≡_}
 use mathlib.Core.List.{List, [], _∷_, map}
-use lib.Dec.{T, eqb→eq, eqb}
-use Rattle.lists.specs.Lists.{sameLists}
+use lib.Dec.{eqb→eq, eqb}
 use Rattle.lists.proofs.Truth.{sameLists→≡}
 use Rattle.rows.specs.Rows.{sameRow, cut}
 use Rattle.meaning.specs.Sheet.{sheetOf, goodCounts, goodEdge, goodCondition, goodListed, goodWords, goodTree, sheetRefusal}

@@ -6,7 +6,6 @@ use lib.ListN.{length}
 use Rattle.text.specs.Laid.{lineOf}
 use Rattle.text.specs.Printing.{linesUpTo}
 use Rattle.text.specs.Writing.{Wrote}
-use Rattle.text.proofs.Writes.{wrote-length}
 use Rattle.text.proofs.Lines.{lines-none, lines-more, lines-end}
 use borrow.Author.Needs.{needs}
 use native.Mathlib.Omega.{arith}

@@ -1,71 +1,51 @@
-use mathlib.Core.Path.{_≡_}
-use lib.ListN.{length}
-use mathlib.Core.Path.{ap}
-use Rattle.text.specs.Writing.{Wrote}
+-- `put_plan` meets its contract: the refusal, or the head and the lines.
+-- Assumes nothing.
 use Rattle.text.proofs.Writes.{wrote-as, wrote-then}
 use Rattle.text.proofs.Laid.{refused-answer, good-answer}
 use borrow.Author.Needs.{needs}
 use native.Mathlib.Omega.{arith}
-use borrow.Author.Needs.{needs}
 use Rattle.text.proofs.printing.put_plan.Statement.{statement}
 use Rattle.text.proofs.printing.put_plan.Tie as tie
-use Rattle.text.proofs.printing.put_plan.Reads as reads
-use Rattle.text.proofs.printing.put_plan.Lts as lts
-use Rattle.text.proofs.printing.put_head.Reads as put-head-reads
-use Rattle.text.proofs.printing.put_lines.Reads as put-lines-reads
-use Rattle.text.proofs.printing.put_refused.Reads as put-refused-reads
 
--- src/printing.rt:180:9
 put-refused-requires : tie.Need-put-refused-requires
 put-refused-requires c κs = search needs
 
--- src/printing.rt:180:9
 same-length : tie.Need-same-length
 same-length c = search needs
 
--- src/printing.rt:180:9
 returns : tie.Need-returns
 returns c = (wrote-as (refused-answer _ (c .before .before .before .before .if1 .taken)) (c .before .before .put-refused .ensures .0), search needs)
 
--- src/printing.rt:186:9
 put-head-requires : tie.Need-put-head-requires
 put-head-requires c κs = search needs
 
--- src/printing.rt:187:25
 slice-aggregate-put-lines : tie.Need-slice-aggregate-put-lines
 slice-aggregate-put-lines c = search needs
 
--- src/printing.rt:187:32
 slice-aggregate-put-lines-2 : tie.Need-slice-aggregate-put-lines-2
 slice-aggregate-put-lines-2 c = search needs
 
--- src/printing.rt:187:42
 slice-aggregate-put-lines-3 : tie.Need-slice-aggregate-put-lines-3
 slice-aggregate-put-lines-3 c = search needs
 
--- src/printing.rt:187:48
 slice-aggregate-put-lines-4 : tie.Need-slice-aggregate-put-lines-4
 slice-aggregate-put-lines-4 c = search needs
 
--- src/printing.rt:187:5
 put-lines-requires : tie.Need-put-lines-requires
-put-lines-requires c κs =
+put-lines-requires c κs = (
+  omega (arith, slice-aggregate-put-lines (c .before .before .before .before)),
+  (
+    omega (arith, slice-aggregate-put-lines-2 (c .before .before .before)),
     (
-      omega (arith, slice-aggregate-put-lines (c .before .before .before .before)),
-      (
-        omega (arith, slice-aggregate-put-lines-2 (c .before .before .before)),
-        (
-          omega (arith, slice-aggregate-put-lines-3 (c .before .before)),
-          (omega (arith, slice-aggregate-put-lines-4 (c .before)), omega (arith, c .before .before .before .before .before .before .before .put-head .ensures .1)),
-        ),
-      ),
-    )
+      omega (arith, slice-aggregate-put-lines-3 (c .before .before)),
+      (omega (arith, slice-aggregate-put-lines-4 (c .before)), omega (arith, c .before .before .before .before .before .before .before .put-head .ensures .1)),
+    ),
+  ),
+)
 
--- src/printing.rt:175:1
 same-length-2 : tie.Need-same-length-2
 same-length-2 c = search needs
 
--- src/printing.rt:175:1
 returns-2 : tie.Need-returns-2
 returns-2 c = (wrote-as (good-answer _ (c .before .before .before .before .before .before .before .before .before .before .before .before .before .before .before .before .if1 .left)) (wrote-then (c .before .before .before .before .before .before .before .before .before .before .put-head .ensures .0) (c .before .before .put-lines .ensures .0)), omega (arith, c .before .before .put-lines .ensures .1, c .before .before .before .before .before .before .before .before .before .before .put-head .ensures .1))
 
