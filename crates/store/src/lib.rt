@@ -1,5 +1,6 @@
 // The store of a good sheet: sound or not, its parts shown and written, and what a call that may write it answers.
 use layout::Plan;
+use rows::Found;
 use sheet::Verdict;
 ghost use mathlib.Core.Path.{_≡_};
 ghost use mathlib.Core.Bool.{true};
@@ -7,7 +8,8 @@ ghost use Prim.Native.Nat.{ℕ, _<_, _≤_};
 ghost use lib.Dec.{T};
 ghost use lib.ListN.{length, set};
 ghost use Rattle.rows.specs.Rows.{rising, putRow, takeRow};
-ghost use Rattle.rows.specs.Marks.{unmarked};
+ghost use Rattle.rows.specs.Ranks.{foundRow, foundKey};
+ghost use Rattle.rows.specs.Marks.{unmarked, Tallied, Marking};
 ghost use Rattle.sheet.specs.Verdicts.{numberOf};
 ghost use Rattle.store.specs.Tests.{absentZero};
 ghost use Rattle.store.specs.Parts.{countIn, rowsIn, soundIn, Within, Kept, Wrote};
@@ -175,6 +177,48 @@ pub fn show<'a>(sheet: &[u64], store: &'a [u64], number: u64, refusal: &mut u64)
     let count = store[slot] as usize;
     let to = from + count * p.columns;
     &store[from..to]
+}
+
+// Where the row with this key stands in a side table's part.
+pub fn find_key(store: &[u64], p: Part, key: u64) -> Found
+    requires { ⌜ Kept p (now store) ⌝ }
+    requires { ⌜ 0 < p .columns ⌝ }
+    ensures { λ f. ⌜ f ≡ foundKey key (rowsIn p (now (store .entry))) ⌝ }
+{
+    let slot = p.slot;
+    let from = p.start;
+    let to = from + p.room * p.columns;
+    let count = store[slot] as usize;
+    rows::find_key(&store[from..to], p.columns, count, key)
+}
+
+// Where the first row that equals r stands in the part.
+pub fn find_row(store: &[u64], p: Part, r: &[u64]) -> Found
+    requires { ⌜ Kept p (now store) ⌝ }
+    requires { ⌜ length (now r) ≡ p .columns ⌝ }
+    ensures { λ f. ⌜ f ≡ foundRow (now (r .entry)) (rowsIn p (now (store .entry))) ⌝ }
+{
+    let slot = p.slot;
+    let from = p.start;
+    let to = from + p.room * p.columns;
+    let count = store[slot] as usize;
+    rows::find(&store[from..to], p.columns, count, r)
+}
+
+// Marks one more of the part's rows that equal r, if one is left without a mark.
+pub fn mark_row(store: &[u64], p: Part, r: &[u64], marks: &mut [u16]) -> bool
+    requires { ⌜ Kept p (now store) ⌝ }
+    requires { ⌜ length (now r) ≡ p .columns ⌝ }
+    requires { ⌜ countIn p (now store) ≤ length (now marks) ⌝ }
+    requires { ⌜ countIn p (now store) < 65536 ⌝ }
+    requires { ⌜ Tallied (rowsIn p (now store)) (now marks) ⌝ }
+    ensures { λ b. ⌜ Marking (now (r .entry)) (rowsIn p (now (store .entry))) (now (marks .entry)) (now (marks .exit)) b ⌝ }
+{
+    let slot = p.slot;
+    let from = p.start;
+    let to = from + p.room * p.columns;
+    let count = store[slot] as usize;
+    rows::mark(&store[from..to], p.columns, count, r, marks)
 }
 
 // r comes into the part at its place; the count is one more.
