@@ -209,8 +209,6 @@ pub fn find_row(store: &[u64], p: Part, r: &[u64]) -> Found
 pub fn mark_row(store: &[u64], p: Part, r: &[u64], marks: &mut [u16]) -> bool
     requires { ⌜ Kept p (now store) ⌝ }
     requires { ⌜ length (now r) ≡ p .columns ⌝ }
-    requires { ⌜ countIn p (now store) ≤ length (now marks) ⌝ }
-    requires { ⌜ countIn p (now store) < 65536 ⌝ }
     requires { ⌜ Tallied (rowsIn p (now store)) (now marks) ⌝ }
     ensures { λ b. ⌜ Marking (now (r .entry)) (rowsIn p (now (store .entry))) (now (marks .entry)) (now (marks .exit)) b ⌝ }
 {
