@@ -2,38 +2,21 @@
 -- Assumes nothing.
 use Prim.Native.Nat.{ℕ, zero, suc}
 use mathlib.Core.Path.{_≡_, refl, sym, subst, _∙_}
-use mathlib.Core.List.{List, [], _∷_, _++_, map}
+use mathlib.Core.List.{List, [], _∷_, map}
 use mathlib.Core.Logic.{_⊎_, inl, inr}
 use lib.Dec.{T}
 use Rattle.lists.specs.Lists.{flat}
-use Rattle.lists.proofs.Truth.{Mem, mem-append, mem-map, map-mem, mem-select, select-mem, eq→eqb, eqb→≡}
+use Rattle.lists.proofs.Truth.{Mem, mem-map, map-mem, mem-select, select-mem, eq→eqb, eqb→≡}
+use Rattle.laws.proofs.Lists.{mem-left, mem-right, mem-flat-map}
 use Rattle.meaning.specs.Sheet.{Edge, Sheet, leaves, edgesFrom}
 use Rattle.meaning.specs.Plan.{isPromised, promised, dep, depPlusIn}
 
--- membership in lists laid end to end
-module _ {A : Type 0} where
-  pub append-left : (xs ys : List A) (x : A) → Mem x xs → Mem x (xs ++ ys)
-  append-left [] ys x m = absurd m
-  append-left (y ∷ xs) ys x (inl e) = inl e
-  append-left (y ∷ xs) ys x (inr m) = inr (append-left xs ys x m)
-
-  pub append-right : (xs ys : List A) (x : A) → Mem x ys → Mem x (xs ++ ys)
-  append-right [] ys x m = m
-  append-right (y ∷ xs) ys x m = inr (append-right xs ys x m)
-
+-- an element of one of the lists that are laid end to end
 module _ {A B : Type 0} (f : A → List B) where
-  pub flat-mem : (xs : List A) (y : B) → Mem y (flat (map f xs)) → (x : A) × Mem x xs × Mem y (f x)
-  flat-mem [] y m = absurd m
-  flat-mem (x ∷ xs) y m = go (mem-append (f x) (flat (map f xs)) y m) (λ m. flat-mem xs y m)
-    where
-      go : Mem y (f x) ⊎ Mem y (flat (map f xs)) → (Mem y (flat (map f xs)) → (z : A) × Mem z xs × Mem y (f z)) → (z : A) × Mem z (x ∷ xs) × Mem y (f z)
-      go (inl k) ih = (x, inl refl, k)
-      go (inr k) ih = (ih k .0, inr (ih k .1), ih k .2)
-
   pub mem-flat : (xs : List A) (x : A) (y : B) → Mem x xs → Mem y (f x) → Mem y (flat (map f xs))
   mem-flat [] x y m k = absurd m
-  mem-flat (z ∷ xs) x y (inl e) k = append-left (f z) (flat (map f xs)) y (subst (λ (w : A). Mem y (f w)) e k)
-  mem-flat (z ∷ xs) x y (inr m) k = append-right (f z) (flat (map f xs)) y (mem-flat xs x y m k)
+  mem-flat (z ∷ xs) x y (inl e) k = mem-left (f z) (flat (map f xs)) y (subst (λ (w : A). Mem y (f w)) e k)
+  mem-flat (z ∷ xs) x y (inr m) k = mem-right (f z) (flat (map f xs)) y (mem-flat xs x y m k)
 
 module _ (s : Sheet) where
   -- a promised edge from t to p
@@ -60,7 +43,7 @@ module _ (s : Sheet) where
 
   -- the first table on the path
   first-step : (k t u : ℕ) → Mem u (depPlusIn s (suc k) t) → (p : ℕ) × Mem p (dep s t) × ((u ≡ p) ⊎ Mem u (depPlusIn s k p))
-  first-step k t u m = flat-mem (λ p. p ∷ depPlusIn s k p) (dep s t) u m
+  first-step k t u m = mem-flat-map (λ p. p ∷ depPlusIn s k p) (dep s t) u m
 
   step-first : (k t u p : ℕ) → Mem p (dep s t) → (u ≡ p) ⊎ Mem u (depPlusIn s k p) → Mem u (depPlusIn s (suc k) t)
   step-first k t u p m h = mem-flat (λ p. p ∷ depPlusIn s k p) (dep s t) p u m h

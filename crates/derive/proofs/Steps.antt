@@ -14,6 +14,7 @@ use Rattle.lists.specs.Lists.{Words, at, all, any, select, member, upTo}
 use Rattle.lists.specs.Loops.{every, some, first}
 use Rattle.lists.proofs.Loops.{and-true}
 use Rattle.lists.proofs.Truth.{Mem, T→≡, F→≡, same-test, mem-map, mem-upTo, select-mem, member→Mem, Mem→member, eq→eqb, eqb→≡}
+use Rattle.laws.proofs.Lists.{any-select}
 use Rattle.meaning.specs.Sheet.{Edge, Sheet, sheetOf, goesInto, leaves, edgesInto, isRoot}
 use Rattle.meaning.specs.Plan.{root, edgeInto, others, isPromised, depPlus, depPlusIn, isListed, names, need, needIn, kept, isShown}
 use Rattle.words.specs.Numbered.{edgeNo, listingNo}
@@ -173,14 +174,6 @@ module _ (ws : Words) (t u l : ℕ) (le : l ≡ first (listingNames ws t 0) (at 
 
 -- tests of what is chosen
 module _ {A : Type 0} where
-  pub any-select : (p q : A → Bool) (xs : List A) → any p (select q xs) ≡ any (λ x. q x && p x) xs
-  any-select p q [] = refl
-  any-select p q (x ∷ xs) = go (q x) (any-select p q xs)
-    where
-      go : (b : Bool) → any p (select q xs) ≡ any (λ x. q x && p x) xs → any p (cond b (x ∷ select q xs) (select q xs)) ≡ (b && p x || any (λ x. q x && p x) xs)
-      go true e = ap (λ (r : Bool). p x || r) e
-      go false e = e
-
   pub all-select : (p q : A → Bool) (xs : List A) → all p (select (λ x. not (q x)) xs) ≡ all (λ x. q x || p x) xs
   all-select p q [] = refl
   all-select p q (x ∷ xs) = go (q x) (all-select p q xs)

@@ -22,7 +22,8 @@ use Rattle.layout.specs.Planned.{Lengths, Planned}
 use Rattle.layout.specs.declared.Plan.{Plan}
 use Rattle.layout.proofs.Shown.{width-small}
 use Rattle.layout.proofs.Sizes as Sizes
-use Rattle.layout.proofs.Sizes.{start-next, shown-few}
+use Rattle.laws.proofs.Stores.{start-next}
+use Rattle.layout.proofs.Sizes.{shown-few}
 
 pub plan-lengths : (s : Sheet) → Lengths (planFor s)
 unfolding planFor keptOf showsOf shownOf columnsOf roomsOf startsOf depOf needOf

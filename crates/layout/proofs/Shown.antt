@@ -21,7 +21,7 @@ use Rattle.layout.specs.Plans.{showsAt, showsOf, shownAt, shownOf}
 use Rattle.layout.proofs.Chosen.{select-narrow, filled-same}
 
 -- a mark is 1 exactly if the test is passed
-one-is : (b : Bool) → eqb (one b) 1 ≡ b
+pub one-is : (b : Bool) → eqb (one b) 1 ≡ b
 one-is true = refl
 one-is false = refl
 

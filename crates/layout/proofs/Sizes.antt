@@ -4,7 +4,7 @@ use Prim.Native.Nat.{ℕ, zero, suc, _+_, _*_, _/_, _%_, _<_, _≤_}
 use mathlib.Core.Path.{_≡_, refl, sym, ap, ap₂, _∙_}
 use mathlib.Core.Bool.{Bool, true, false, _&&_}
 use mathlib.Core.List.{List, [], _∷_, map}
-use native.Mathlib.Nat.{mul-le-mul, zero-add}
+use native.Mathlib.Nat.{mul-le-mul}
 use native.Mathlib.Numerals.{add-one}
 use native.Mathlib.Omega.{arith}
 use lib.Dec.{ltb}
@@ -18,7 +18,7 @@ use Rattle.lists.proofs.Loops.{getD-filled}
 use Rattle.lists.proofs.Places.{length-from}
 use Rattle.meaning.specs.Sheet.{Sheet, sheetOf, width, room}
 use Rattle.meaning.specs.Plan.{dep, need, needIn, kept, isShown, shown, columns, size, start, storeLength}
-use Rattle.laws.proofs.Lists.{sum-last}
+use Rattle.laws.proofs.Stores.{start-next}
 use Rattle.laws.proofs.Columns.{columns-side, columns-unkept, columns-list}
 use Rattle.words.specs.Counted.{counted}
 use Rattle.words.specs.Numbered.{listingNo, roomNo}
@@ -63,10 +63,6 @@ need-mark ws i v b h e m =
 pub start-first : (s : Sheet) → start s 0 ≡ 9
 unfolding start
 start-first s = refl
-
-pub start-next : (s : Sheet) (part : ℕ) → start s (suc part) ≡ start s part + size s part
-unfolding start
-start-next s part = omega (arith, sum-last (size s) part 0, ap (size s) (zero-add part))
 
 pub start-more : (s : Sheet) (part at v : ℕ) → at ≡ start s part → v ≡ size s part → at + v ≡ start s (part + 1)
 start-more s part at v e q = omega (arith, start-next s part, ap (start s) (add-one part))

@@ -15,7 +15,8 @@ use Rattle.meaning.specs.Sheet.{sheetOf}
 use Rattle.meaning.specs.Plan.{shown}
 use Rattle.words.specs.Counted.{counted}
 use Rattle.words.specs.Rules.{Rules}
-use Rattle.words.proofs.Numbers.{select-append, length-upTo}
+use Rattle.laws.proofs.Lists.{select-append}
+use Rattle.words.proofs.Numbers.{length-upTo}
 use Rattle.layout.specs.Marks.{marked, markedIn}
 use Rattle.layout.specs.Plans.{showsOf}
 use Rattle.layout.proofs.Chosen.{upTo-split}

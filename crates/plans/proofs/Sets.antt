@@ -21,7 +21,7 @@ use Rattle.words.proofs.Numbers.{member-chosen}
 use Rattle.sheet.proofs.Good.{good-rules}
 use Rattle.layout.specs.Marks.{marked, markedIn}
 use Rattle.layout.proofs.Chosen.{select-narrow}
-use Rattle.layout.proofs.Shown.{width-small}
+use Rattle.layout.proofs.Shown.{one-is, width-small}
 use Rattle.plans.specs.Answers.{tableNo, setsOf, numbersOf, laid}
 use Rattle.plans.proofs.Laid.{table-in, tables-many}
 
@@ -31,11 +31,6 @@ pub record Rising (xs : List ℕ) : Type 0 where
   pub below : ℕ
   pub small : below ≤ 8
   pub chosen : xs ≡ select test (upTo below)
-
--- a mark is 1 exactly if the number is there
-one-is : (b : Bool) → eqb (one b) 1 ≡ b
-one-is true = refl
-one-is false = refl
 
 pub marked-sets : (f : ℕ → List ℕ) (t : ℕ) → t < 8 → Rising (f t) → markedIn (setsOf f) t ≡ f t
 unfolding markedIn marked setsOf

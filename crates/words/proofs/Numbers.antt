@@ -12,6 +12,7 @@ use Rattle.lists.specs.Lists.{all, any, select, noneTwice, from, upTo, member}
 use Rattle.lists.specs.Totals.{one}
 use Rattle.lists.specs.Loops.{every, some, first}
 use Rattle.lists.proofs.Loops.{first-none}
+use Rattle.laws.proofs.Lists.{select-append}
 use Rattle.lists.proofs.Truth.{isT, T→≡, same-test, and-fst, and-snd, and-both, mem-select, select-mem, mem-upTo, upTo-mem, member→Mem, Mem→member}
 use borrow.Author.Tests.{lt-ltb, ltb-true}
 use lib.Dec.{ltb}
@@ -32,15 +33,6 @@ module _ {A : Type 0} where
   pub any-append : (p : A → Bool) (xs ys : List A) → any p (xs ++ ys) ≡ (any p xs || any p ys)
   any-append p [] ys = refl
   any-append p (x ∷ xs) ys = ap (λ (b : Bool). p x || b) (any-append p xs ys) ∙ sym (or-assoc (p x) (any p xs) (any p ys))
-
-  pub select-append : (p : A → Bool) (xs ys : List A) → select p (xs ++ ys) ≡ select p xs ++ select p ys
-  select-append p [] ys = refl
-  select-append p (x ∷ xs) ys = go (p x) (select-append p xs ys)
-    where
-      go : (b : Bool) → select p (xs ++ ys) ≡ select p xs ++ select p ys
-          → cond b (x ∷ select p (xs ++ ys)) (select p (xs ++ ys)) ≡ cond b (x ∷ select p xs) (select p xs) ++ select p ys
-      go true e = ap (λ (l : List A). x ∷ l) e
-      go false e = e
 
   -- f 0, f 1, .., f k: one more
   pub up-more : (f : ℕ → A) (k : ℕ) → map f (upTo (suc k)) ≡ map f (upTo k) ++ (f k ∷ [])
