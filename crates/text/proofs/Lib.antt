@@ -6,3 +6,4 @@ pub mod Sets
 pub mod Lines
 pub mod Answers
 pub mod Laid
+pub mod Numerals

@@ -53,11 +53,11 @@ pub put-all : (s s′ : List ℕ) (bytes : Text) (at i : ℕ) → length bytes �
 put-all s s′ bytes at i h w l = rw (take-all i bytes h) at w
 
 -- a number's digits
-digits-one : (k n : ℕ) → n < 10 → digits (suc k) n ≡ (48 + n) ∷ []
+pub digits-one : (k n : ℕ) → n < 10 → digits (suc k) n ≡ (48 + n) ∷ []
 unfolding digits
 digits-one k n h = rw (lt-ltb n 10 h)
 
-digits-more : (k n : ℕ) → 10 ≤ n → digits (suc k) n ≡ digits k (n / 10) ++ ((48 + n % 10) ∷ [])
+pub digits-more : (k n : ℕ) → 10 ≤ n → digits (suc k) n ≡ digits k (n / 10) ++ ((48 + n % 10) ∷ [])
 unfolding digits
 digits-more k n h = rw (le-ltb n 10 h)
 
@@ -127,3 +127,7 @@ module _ (s s′ : List ℕ) (at n end : ℕ) where
 -- the same bytes by another name
 pub wrote-as : {s s′ : List ℕ} {at at′ : ℕ} {xs ys : Text} → xs ≡ ys → Wrote s at xs s′ at′ → Wrote s at ys s′ at′
 wrote-as e w = rw e at w
+
+-- what is written is one buffer and one end
+pub wrote-once : {s s′ s″ : List ℕ} {at at′ at″ : ℕ} {xs : Text} → Wrote s at xs s′ at′ → Wrote s at xs s″ at″ → (s′ ≡ s″) × (at′ ≡ at″)
+wrote-once w m = (w .new-is ∙ sym (m .new-is), w .end-is ∙ sym (m .end-is))
