@@ -78,6 +78,33 @@ static double pass(int times)
     return best;
 }
 
+// How deep a call goes on the stack: what lies below is painted before it, and looked at after it
+enum { DEPTH = 4 << 20, PAINT = 0xa5 };
+
+__attribute__((noinline)) static void paint(void)
+{
+    volatile unsigned char room[DEPTH];
+    for (size_t i = 0; i < DEPTH; i++)
+        room[i] = PAINT;
+}
+
+__attribute__((noinline)) static size_t depth(void)
+{
+    volatile unsigned char room[DEPTH];
+    size_t i = 0;
+    while (i < DEPTH && room[i] == PAINT)
+        i++;
+    return DEPTH - i;
+}
+
+static double stack_of(const call *c)
+{
+    memcpy(store, fresh, store_length * sizeof *store);
+    paint();
+    proved(c);
+    return (double)depth() / 1024;
+}
+
 static int measure(const char *name, const call *c, int times)
 {
     memcpy(store, fresh, store_length * sizeof *store);
@@ -86,13 +113,13 @@ static int measure(const char *name, const call *c, int times)
     memcpy(store, fresh, store_length * sizeof *store);
     plain_answer b = plain(c);
     if (a.number != b.number || a.taken != b.taken || a.added != b.added || memcmp(store, other, store_length * sizeof *store) != 0) {
-        printf("%-36s the two outcomes differ: %llu %llu %llu, %llu %llu %llu\n", name, (unsigned long long)a.number, (unsigned long long)a.taken, (unsigned long long)a.added,
+        printf("%-28s the two outcomes differ: %llu %llu %llu, %llu %llu %llu\n", name, (unsigned long long)a.number, (unsigned long long)a.taken, (unsigned long long)a.added,
                (unsigned long long)b.number, (unsigned long long)b.taken, (unsigned long long)b.added);
         return 1;
     }
     double p = least(proved, c, times), q = least(plain, c, times), floor = pass(times);
-    printf("%-36s %8.1f us  %6.2f x plain C  %7.1f x one pass  (number %llu, taken %llu, added %llu)\n", name, p / 1e3, p / q, p / floor, (unsigned long long)a.number,
-           (unsigned long long)a.taken, (unsigned long long)a.added);
+    printf("%-28s %9.1f us  %5.2f x plain C  %8.1f x one pass  %6.1f KiB of stack  (number %llu, taken %llu, added %llu)\n", name, p / 1e3, p / q, p / floor, stack_of(c),
+           (unsigned long long)a.number, (unsigned long long)a.taken, (unsigned long long)a.added);
     return 0;
 }
 
@@ -239,8 +266,8 @@ static int plans_and_shows(word *sheet, size_t length)
         double e = now();
         p = b - a < p ? b - a : p, q = c - b < q ? c - b : q, r = d - c < r ? d - c : r, u = e - d < u ? e - d : u;
     }
-    printf("%-36s %8.1f us  %6.2f x plain C\n", "plan", p / 1e3, p / q);
-    printf("%-36s %8.1f us  %6.2f x plain C  %7.1f x one pass\n", "show", r / 1e3, r / u, r / floor);
+    printf("%-28s %9.1f us  %5.2f x plain C\n", "plan", p / 1e3, p / q);
+    printf("%-28s %9.1f us  %5.2f x plain C  %8.1f x one pass\n", "show", r / 1e3, r / u, r / floor);
     return 0;
 }
 
