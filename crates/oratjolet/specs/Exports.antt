@@ -10,6 +10,9 @@ use Rattle.lists.specs.Lists.{Words}
 use Rattle.meaning.specs.Sheet.{sheetOf}
 use Rattle.meaning.specs.Plan.{plan, start}
 use Rattle.meaning.specs.Store.{show}
+use Rattle.meaning.specs.Answers.{Outcome}
+use Rattle.store.specs.declared.Answer.{Answer}
+use Rattle.store.specs.Answers.{numberOf, takenOf, addedOf}
 use Rattle.plans.specs.Answers.{laid}
 use Rattle.plans.specs.declared.PlanAnswer.{PlanAnswer}
 
@@ -31,3 +34,16 @@ pub record Shown (sheet store : Words) (part number first count : ℕ) : Type 0 
   pub first-is : first ≡ firstOf sheet part number
   pub count-is : count ≡ length (show sheet store part .words)
   pub words-are : take count (drop first store) ≡ show sheet store part .words
+
+-- An answer's number and counts, each in its word
+pub record Told (a : Answer) (number taken added : ℕ) : Type 0 where
+  pub number-is : number ≡ numberOf a
+  pub taken-is : taken ≡ takenOf a
+  pub added-is : added ≡ addedOf a
+
+-- The fill call and the change call: the whole outcome
+pub record Left (o : Outcome) (number taken added : ℕ) (store : Words) : Type 0 where
+  pub number-is : number ≡ o .number
+  pub taken-is : taken ≡ o .taken
+  pub added-is : added ≡ o .added
+  pub words-are : store ≡ o .words

@@ -1,11 +1,12 @@
 // The face: the calls in one place, exported to C and Rust. A call's result is its number; what else it answers goes to words that the caller lends.
 use plans::PlanAnswer;
+use store::Answer;
 ghost use mathlib.Core.Path.{_≡_};
 ghost use Prim.Native.Nat.{_+_, _≤_};
 ghost use mathlib.Core.List.{_++_};
 ghost use lib.ListN.{length};
 ghost use Rattle.text.specs.Writing.{Wrote};
-ghost use Rattle.oratjolet.specs.Exports.{planWords, Planned, Shown};
+ghost use Rattle.oratjolet.specs.Exports.{planWords, Planned, Shown, Told};
 
 // Writes the words from `at` on, and answers where they end.
 fn put(words: &[u64], out: &mut [u64], at: usize) -> usize
@@ -110,4 +111,22 @@ pub extern "C" fn oratjolet_show(
     let plan = layout::check(sheet).plan;
     *first = plan.starts[number as usize] as u64;
     0
+}
+
+// What fill and change answer: the number, and in the lent words the rows taken from the list and added to it.
+fn tell(a: Answer, taken: &mut u64, added: &mut u64) -> u64
+    ensures { λ k. ⌜ Told a k (now (taken .exit)) (now (added .exit)) ⌝ }
+{
+    match a {
+        Answer::Done(t, d) => {
+            *taken = t;
+            *added = d;
+            0
+        }
+        Answer::Refused(k) => {
+            *taken = 0;
+            *added = 0;
+            k
+        }
+    }
 }
