@@ -2,3 +2,4 @@ pub mod Numbers
 pub mod Rows
 pub mod Counts
 pub mod Stores
+pub mod Whole
