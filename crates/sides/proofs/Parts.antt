@@ -19,7 +19,7 @@ use Rattle.store.specs.Parts.{rowsIn, Lies, Kept, Wrote}
 use Rattle.store.specs.Plans.{GoodPlan, partOf}
 use Rattle.store.proofs.Lying.{rows-is, lies-kept, wrote-stands, lies-rows}
 use Rattle.store.proofs.Plans.{part-lies, kept-columns}
-use Rattle.sides.specs.Sides.{Modelled, Sided}
+use Rattle.sides.specs.Sides.{Begins, Modelled, Sided}
 
 module _ (s : Sheet) (p : Plan) (plan : GoodPlan s p) (t : ℕ) (l : t < s .n) (q : Part) (e : q ≡ partOf p t) where
   pub side-lies : Lies s t q
@@ -51,8 +51,8 @@ module _ (s : Sheet) (p : Plan) (plan : GoodPlan s p) (t : ℕ) (l : t < s .n) (
         }
 
   -- r's shown columns, at the head of a row of eight words
-  pub side-head : (row r : Row) → T (kept s t) → take (length (shown s t)) row ≡ pick (shown s t) r → take (q .columns) row ≡ pick (shown s t) r
-  side-head row r k h = ap (λ (w : ℕ). take w row) (side-columns k) ∙ h
+  pub side-head : {row r : Row} → T (kept s t) → Begins s t r row → take (q .columns) row ≡ pick (shown s t) r
+  side-head {row} k b = ap (λ (w : ℕ). take w row) (side-columns k) ∙ b .head
 
-  pub side-long : (row r : Row) → T (kept s t) → take (length (shown s t)) row ≡ pick (shown s t) r → length (take (q .columns) row) ≡ q .columns
-  side-long row r k h = ap length (side-head row r k h) ∙ length-map (shown s t) (at r) ∙ sym (side-columns k)
+  pub side-long : {row r : Row} → T (kept s t) → Begins s t r row → length (take (q .columns) row) ≡ q .columns
+  side-long {row} {r} k b = ap length (side-head k b) ∙ length-map (shown s t) (at r) ∙ sym (side-columns k)

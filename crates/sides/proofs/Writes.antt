@@ -32,7 +32,7 @@ use Rattle.store.specs.Parts.{countIn, rowsIn, Wrote}
 use Rattle.store.specs.Plans.{GoodPlan, partOf}
 use Rattle.store.proofs.Lying.{count-is}
 use Rattle.store.proofs.Plans.{unmarked}
-use Rattle.sides.specs.Sides.{Modelled, hasRoom, Replaceable, Sided}
+use Rattle.sides.specs.Sides.{Begins, Modelled, hasRoom, Replaceable, Sided}
 use Rattle.sides.proofs.Parts.{side-lies, side-kept, side-rows, side-wrote, side-head}
 
 -- a table whose rows stay
@@ -76,18 +76,18 @@ module _ (s : Sheet) (p : Plan) (plan : GoodPlan s p) (t : ℕ) (l : t < s .n) (
       let lies = side-lies s p plan t l q e in
       omega (arith, count-is s t q lies ws, lies .room-is, ltb→lt (count s ws t) (room s t) (rw (T→≡ (kept s t) k) at h))
 
-  module _ (row r : Row) (head : take (length (shown s t)) row ≡ pick (shown s t) r) (after : Words) where
+  module _ (row r : Row) (b : Begins s t r row) (after : Words) where
     pub put-kept : Wrote q (putRow (take (q .columns) row) (rowsIn q ws)) ws after → Sided s t (putRows (sideRow s t r)) ws after
     unfolding putRows
     put-kept w =
         side-wrote s p plan t l q e ws m (putRows (sideRow s t r)) (putRow (take (q .columns) row) (rowsIn q ws)) after w
-        (ap (λ (x : Row). putRow x (rowsIn q ws)) (side-head s p plan t l q e row r k head) ∙ ap (λ (xs : Rows). putRows xs (rowsIn q ws)) (sym (side-row-one s t r k)))
+        (ap (λ (x : Row). putRow x (rowsIn q ws)) (side-head s p plan t l q e k b) ∙ ap (λ (xs : Rows). putRows xs (rowsIn q ws)) (sym (side-row-one s t r k)))
 
     pub take-kept : Wrote q (takeRow (take (q .columns) row) (rowsIn q ws)) ws after → Sided s t (takeRows (sideRow s t r)) ws after
     unfolding takeRows
     take-kept w =
         side-wrote s p plan t l q e ws m (takeRows (sideRow s t r)) (takeRow (take (q .columns) row) (rowsIn q ws)) after w
-        (ap (λ (x : Row). takeRow x (rowsIn q ws)) (side-head s p plan t l q e row r k head) ∙ ap (λ (xs : Rows). takeRows xs (rowsIn q ws)) (sym (side-row-one s t r k)))
+        (ap (λ (x : Row). takeRow x (rowsIn q ws)) (side-head s p plan t l q e k b) ∙ ap (λ (xs : Rows). takeRows xs (rowsIn q ws)) (sym (side-row-one s t r k)))
 
   -- a row found is replaced where it stands
   module _ (old new : Row) (h : Replaceable s ws t old new) (f : Found) (found : f ≡ foundRow (pick (shown s t) old) (rowsAt s ws t)) where
@@ -116,14 +116,14 @@ module _ (s : Sheet) (p : Plan) (plan : GoodPlan s p) (t : ℕ) (l : t < s .n) (
             count-is s t q (side-lies s p plan t l q e) ws,
           )
 
-      module _ (row : Row) (head : take (length (shown s t)) row ≡ pick (shown s t) new) where
+      module _ (row : Row) (b : Begins s t new row) where
         pub replace-up : T (rising (set (rowsIn q ws) i (take (q .columns) row)))
-        replace-up = rw (side-head s p plan t l q e row new k head) (is .up)
+        replace-up = rw (side-head s p plan t l q e k b) (is .up)
 
         pub replace-kept : (after : Words) → Wrote q (set (rowsIn q ws) i (take (q .columns) row)) ws after
             → Sided s t (λ (rows : Rows). putRows (sideRow s t new) (takeRows (sideRow s t old) rows)) ws after
         unfolding putRows takeRows
         replace-kept after w =
             side-wrote s p plan t l q e ws m (λ (rows : Rows). putRows (sideRow s t new) (takeRows (sideRow s t old) rows)) (set (rowsIn q ws) i (take (q .columns) row)) after w
-            (ap (set (rowsIn q ws) i) (side-head s p plan t l q e row new k head) ∙ sym (is .is)
+            (ap (set (rowsIn q ws) i) (side-head s p plan t l q e k b) ∙ sym (is .is)
             ∙ ap₂ (λ (xs ys : Rows). putRows xs (takeRows ys (rowsIn q ws))) (sym (side-row-one s t new k)) (sym (side-row-one s t old k)))

@@ -4,6 +4,7 @@ use Prim.Native.Nat.{ℕ}
 use mathlib.Core.Path.{_≡_}
 use mathlib.Core.Bool.{Bool, not, _||_}
 use lib.Dec.{T, ltb}
+use lib.ListN.{length, take}
 use Rattle.lists.specs.Lists.{Words}
 use Rattle.rows.specs.Rows.{Row, Rows, key, pick, hasRow, noKeyTwice}
 use Rattle.meaning.specs.Sheet.{Sheet, room}
@@ -11,6 +12,10 @@ use Rattle.meaning.specs.Plan.{kept, shown}
 use Rattle.meaning.specs.Meaning.{Model}
 use Rattle.meaning.specs.Store.{partRows, count, rowsAt}
 use Rattle.places.specs.Stands.{Stands, withPart}
+
+-- the row begins with r's shown columns
+pub record Begins (s : Sheet) (t : ℕ) (r row : Row) : Type 0 where
+  pub head : take (length (shown s t)) row ≡ pick (shown s t) r
 
 -- the store stands for some model
 pub record Modelled (s : Sheet) (ws : Words) : Type 0 where

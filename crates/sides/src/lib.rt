@@ -4,7 +4,7 @@ use rows::Found;
 ghost use mathlib.Core.Path.{_≡_};
 ghost use Prim.Native.Nat.{ℕ, _<_};
 ghost use lib.Dec.{T};
-ghost use lib.ListN.{length, take};
+ghost use lib.ListN.{length};
 ghost use Rattle.rows.specs.Rows.{Rows, pick, putRows, takeRows};
 ghost use Rattle.rows.specs.Ranks.{foundRow};
 ghost use Rattle.meaning.specs.Sheet.{sheetOf, width};
@@ -12,7 +12,7 @@ ghost use Rattle.meaning.specs.Plan.{kept, shown};
 ghost use Rattle.meaning.specs.Store.{modelOf, rowsAt, sound};
 ghost use Rattle.meaning.specs.Change.{qualifies, sideRow, newKey, oldRow};
 ghost use Rattle.store.specs.Plans.{GoodPlan};
-ghost use Rattle.sides.specs.Sides.{Modelled, hasRoom, Replaceable, Sided};
+ghost use Rattle.sides.specs.Sides.{Begins, Modelled, hasRoom, Replaceable, Sided};
 
 // r's shown columns go into the lent row.
 pub fn side_row(sheet: &[u64], plan: Plan, t: usize, r: &[u64], row: &mut [u64])
@@ -37,7 +37,7 @@ fn side_words(sheet: &[u64], plan: Plan, t: usize, r: &[u64]) -> [u64; 8]
     requires { ⌜ t < sheetOf (now sheet) .n ⌝ }
     requires { ⌜ length (now r) ≡ width (sheetOf (now sheet)) t ⌝ }
     requires { ⌜ T (kept (sheetOf (now sheet)) t) ⌝ }
-    ensures { λ row. ⌜ take (length (shown (sheetOf (now (sheet .entry))) t)) row ≡ pick (shown (sheetOf (now (sheet .entry))) t) (now (r .entry)) ⌝ }
+    ensures { λ row. ⌜ Begins (sheetOf (now (sheet .entry))) t (now (r .entry)) row ⌝ }
 {
     let w = plan.columns[t];
     let mut row = [0u64; 8];

@@ -18,13 +18,13 @@ array-share-prefix-row : tie.Need-array-share-prefix-row
 array-share-prefix-row c = let st = c .before .before .before .before .before in omega (arith, side-narrow _ _ (st .pre .0) _ (st .pre .1 .0) _ (c .before .part-of .ensures) (st .pre .1 .1 .1 .0))
 
 slice-aggregate-find-row : tie.Need-slice-aggregate-find-row
-slice-aggregate-find-row c = let st = c .before .before .before .before .before .before in sym (side-long _ _ (st .pre .0) _ (st .pre .1 .0) _ (c .before .before .part-of .ensures) _ (st .args .r .now) (st .pre .1 .1 .1 .0) (c .before .side-words .ensures))
+slice-aggregate-find-row c = let st = c .before .before .before .before .before .before in sym (side-long _ _ (st .pre .0) _ (st .pre .1 .0) _ (c .before .before .part-of .ensures) (st .pre .1 .1 .1 .0) (c .before .side-words .ensures))
 
 find-row-requires : tie.Need-find-row-requires
-find-row-requires c κs = let st = c .before .before .before .before .before .before in (side-kept _ _ (st .pre .0) _ (st .pre .1 .0) _ (c .before .before .part-of .ensures) _ (st .pre .1 .1 .1 .1), side-long _ _ (st .pre .0) _ (st .pre .1 .0) _ (c .before .before .part-of .ensures) _ (st .args .r .now) (st .pre .1 .1 .1 .0) (c .before .side-words .ensures))
+find-row-requires c κs = let st = c .before .before .before .before .before .before in (side-kept _ _ (st .pre .0) _ (st .pre .1 .0) _ (c .before .before .part-of .ensures) _ (st .pre .1 .1 .1 .1), side-long _ _ (st .pre .0) _ (st .pre .1 .0) _ (c .before .before .part-of .ensures) (st .pre .1 .1 .1 .0) (c .before .side-words .ensures))
 
 returns : tie.Need-returns
-returns c = let st = c .before .before .before .before .before .before .before in c .find-row .ensures ∙ ap₂ foundRow (side-head _ _ (st .pre .0) _ (st .pre .1 .0) _ (c .before .before .before .part-of .ensures) _ (st .args .r .now) (st .pre .1 .1 .1 .0) (c .before .before .side-words .ensures)) (side-rows _ _ (st .pre .0) _ (st .pre .1 .0) _ (c .before .before .before .part-of .ensures) _ (st .pre .1 .1 .1 .1))
+returns c = let st = c .before .before .before .before .before .before .before in c .find-row .ensures ∙ ap₂ foundRow (side-head _ _ (st .pre .0) _ (st .pre .1 .0) _ (c .before .before .before .part-of .ensures) (st .pre .1 .1 .1 .0) (c .before .before .side-words .ensures)) (side-rows _ _ (st .pre .0) _ (st .pre .1 .0) _ (c .before .before .before .part-of .ensures) _ (st .pre .1 .1 .1 .1))
 
 pub find-side-spec : {M : Type 1} → statement M
 find-side-spec =

@@ -37,13 +37,13 @@ part-of-requires : tie.Need-part-of-requires
 part-of-requires c κs = search needs
 
 side-words-requires : tie.Need-side-words-requires
-side-words-requires c κs = let st = c .before .before .before .before .before .before .before .before .before .before .before .before in (st .pre .0, (st .pre .1 .0, (st .pre .1 .1 .1 .0, marked _ _ (st .pre .0) _ (st .pre .1 .0) (c .before .before .before .before .before .before .if1 .left))))
+side-words-requires c κs = let st = c .before .before .before .before .before .before .before .before .before .before .before .before in (st .pre .0, (st .pre .1 .0, (search needs, marked _ _ (st .pre .0) _ (st .pre .1 .0) (c .before .before .before .before .before .before .if1 .left))))
 
 array-share-prefix-row : tie.Need-array-share-prefix-row
 array-share-prefix-row c = let st = c .before .before .before .before .before .before .before .before .before .before .before .before .before .before in omega (arith, side-narrow _ _ (st .pre .0) _ (st .pre .1 .0) _ (c .before .before .part-of .ensures) (marked _ _ (st .pre .0) _ (st .pre .1 .0) (c .before .before .before .before .before .before .before .before .if1 .left)))
 
 slice-aggregate-replace-row : tie.Need-slice-aggregate-replace-row
-slice-aggregate-replace-row c = let st = c .before .before .before .before .before .before .before .before .before .before .before .before .before .before .before in sym (side-long _ _ (st .pre .0) _ (st .pre .1 .0) _ (c .before .before .before .part-of .ensures) _ (st .args .new .now) (marked _ _ (st .pre .0) _ (st .pre .1 .0) (c .before .before .before .before .before .before .before .before .before .if1 .left)) (c .before .before .side-words .ensures))
+slice-aggregate-replace-row c = let st = c .before .before .before .before .before .before .before .before .before .before .before .before .before .before .before in sym (side-long _ _ (st .pre .0) _ (st .pre .1 .0) _ (c .before .before .before .part-of .ensures) (marked _ _ (st .pre .0) _ (st .pre .1 .0) (c .before .before .before .before .before .before .before .before .before .if1 .left)) (c .before .before .side-words .ensures))
 
 replace-row-requires : tie.Need-replace-row-requires
 replace-row-requires c κs = let st = c .before .before .before .before .before .before .before .before .before .before .before .before .before .before .before in let k = marked _ _ (st .pre .0) _ (st .pre .1 .0) (c .before .before .before .before .before .before .before .before .before .if1 .left) in (
@@ -51,7 +51,7 @@ replace-row-requires c κs = let st = c .before .before .before .before .before 
   (
     replace-below _ _ (st .pre .0) _ (st .pre .1 .0) k _ (c .before .before .before .part-of .ensures) _ (st .pre .1 .1 .1 .1 .0) _ _ (st .pre .1 .1 .1 .1 .1) _ (c .before .before .before .before .before .before .before .find-side .ensures) _ (c .before .before .before .before .before .f .given .1),
     (
-      side-long _ _ (st .pre .0) _ (st .pre .1 .0) _ (c .before .before .before .part-of .ensures) _ (st .args .new .now) k (c .before .before .side-words .ensures),
+      side-long _ _ (st .pre .0) _ (st .pre .1 .0) _ (c .before .before .before .part-of .ensures) k (c .before .before .side-words .ensures),
       replace-up _ _ (st .pre .0) _ (st .pre .1 .0) k _ (c .before .before .before .part-of .ensures) _ (st .pre .1 .1 .1 .1 .0) _ _ (st .pre .1 .1 .1 .1 .1) _ (c .before .before .before .before .before .before .before .find-side .ensures) _ (c .before .before .before .before .before .f .given .1) _ (c .before .before .side-words .ensures),
     ),
   ),

@@ -23,7 +23,7 @@ side-row-requires : tie.Need-side-row-requires
 side-row-requires c κs = let st = c .before .before .before .before in (st .pre .0, (st .pre .1 .0, (st .pre .1 .1 .0, shown-room _ _ (st .pre .0) _ (st .pre .1 .0) (st .pre .1 .1 .1) (replicate 8 0) (omega arith) ∙ shown-count _ _ (st .pre .0) _ (st .pre .1 .0) (st .pre .1 .1 .1))))
 
 returns : tie.Need-returns
-returns c = let st = c .before .before .before .before .before .before in shown-back _ _ (st .pre .0) _ (st .pre .1 .0) (st .pre .1 .1 .1) _ _ _ (c .before .side-row .kept .1 .1 .1 .1 .0 ∙ shown-room _ _ (st .pre .0) _ (st .pre .1 .0) (st .pre .1 .1 .1) (replicate 8 0) (omega arith)) (c .before .side-row .ensures)
+returns c = let st = c .before .before .before .before .before .before in record { head = shown-back _ _ (st .pre .0) _ (st .pre .1 .0) (st .pre .1 .1 .1) _ _ _ (c .before .side-row .kept .1 .1 .1 .1 .0 ∙ shown-room _ _ (st .pre .0) _ (st .pre .1 .0) (st .pre .1 .1 .1) (replicate 8 0) (omega arith)) (c .before .side-row .ensures) }
 
 pub side-words-spec : {M : Type 1} → statement M
 side-words-spec =

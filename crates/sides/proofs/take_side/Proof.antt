@@ -28,10 +28,10 @@ array-share-prefix-row : tie.Need-array-share-prefix-row
 array-share-prefix-row c = let st = c .before .before .before .before .before .before .before .before in omega (arith, side-narrow _ _ (st .pre .0) _ (st .pre .1 .0) _ (c .before .before .part-of .ensures) (marked _ _ (st .pre .0) _ (st .pre .1 .0) (c .before .before .before .if1 .left)))
 
 slice-aggregate-take-row : tie.Need-slice-aggregate-take-row
-slice-aggregate-take-row c = let st = c .before .before .before .before .before .before .before .before .before in sym (side-long _ _ (st .pre .0) _ (st .pre .1 .0) _ (c .before .before .before .part-of .ensures) _ (st .args .r .now) (marked _ _ (st .pre .0) _ (st .pre .1 .0) (c .before .before .before .before .if1 .left)) (c .before .before .side-words .ensures))
+slice-aggregate-take-row c = let st = c .before .before .before .before .before .before .before .before .before in sym (side-long _ _ (st .pre .0) _ (st .pre .1 .0) _ (c .before .before .before .part-of .ensures) (marked _ _ (st .pre .0) _ (st .pre .1 .0) (c .before .before .before .before .if1 .left)) (c .before .before .side-words .ensures))
 
 take-row-requires : tie.Need-take-row-requires
-take-row-requires c κs = let st = c .before .before .before .before .before .before .before .before .before in let k = marked _ _ (st .pre .0) _ (st .pre .1 .0) (c .before .before .before .before .if1 .left) in (side-kept _ _ (st .pre .0) _ (st .pre .1 .0) _ (c .before .before .before .part-of .ensures) _ (st .pre .1 .1 .1), side-long _ _ (st .pre .0) _ (st .pre .1 .0) _ (c .before .before .before .part-of .ensures) _ (st .args .r .now) k (c .before .before .side-words .ensures))
+take-row-requires c κs = let st = c .before .before .before .before .before .before .before .before .before in let k = marked _ _ (st .pre .0) _ (st .pre .1 .0) (c .before .before .before .before .if1 .left) in (side-kept _ _ (st .pre .0) _ (st .pre .1 .0) _ (c .before .before .before .part-of .ensures) _ (st .pre .1 .1 .1), side-long _ _ (st .pre .0) _ (st .pre .1 .0) _ (c .before .before .before .part-of .ensures) k (c .before .before .side-words .ensures))
 
 same-length : tie.Need-same-length
 same-length c = search needs
