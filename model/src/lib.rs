@@ -3,9 +3,11 @@
 pub mod base;
 pub mod change;
 pub mod fill;
+pub mod frame;
 pub mod list;
 pub mod plan;
 pub mod random;
+pub mod reached;
 pub mod sheet;
 pub mod store;
 pub mod text;

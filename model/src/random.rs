@@ -1,6 +1,7 @@
 //! A small random source whose numbers depend on its seed alone, and the values drawn from it.
 
 pub mod calls;
+pub mod chains;
 pub mod changes;
 pub mod damage;
 pub mod rows;

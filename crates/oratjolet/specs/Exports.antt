@@ -1,0 +1,49 @@
+-- What the exported calls leave in the words that the caller lends, for every input: document 01's outcomes, word for word.
+-- Assumes nothing.
+use Prim.Native.Nat.{ℕ}
+use mathlib.Core.Path.{_≡_}
+use mathlib.Core.Bool.{cond}
+use mathlib.Core.List.{[], _∷_, _++_}
+use lib.Dec.{eqb}
+use lib.ListN.{length, take, drop}
+use Rattle.lists.specs.Lists.{Words}
+use Rattle.meaning.specs.Sheet.{sheetOf}
+use Rattle.meaning.specs.Plan.{plan, start}
+use Rattle.meaning.specs.Store.{show}
+use Rattle.meaning.specs.Answers.{Outcome}
+use Rattle.store.specs.declared.Answer.{Answer}
+use Rattle.store.specs.Answers.{numberOf, takenOf, addedOf}
+use Rattle.plans.specs.Answers.{laid}
+use Rattle.plans.specs.declared.PlanAnswer.{PlanAnswer}
+
+-- The plan call's 220 words: number, tables, root, store length, then eight marks, three times 64 marks, eight places, eight rooms
+unfoldable pub planWords : PlanAnswer → Words
+planWords a = (a .number ∷ a .tables ∷ a .root ∷ a .store ∷ []) ++ a .kept ++ (a .columns ++ a .dep ++ a .need) ++ (a .starts ++ a .rooms)
+
+pub record Planned (sheet : Words) (number : ℕ) (answer : Words) : Type 0 where
+  pub number-is : number ≡ plan sheet .number
+  pub words-are : answer ≡ planWords (laid (plan sheet))
+
+-- where the rows of a part begin: 0 if the call is refused
+unfoldable pub firstOf : Words → ℕ → ℕ → ℕ
+firstOf sheet part number = cond (eqb number 0) (start (sheetOf sheet) part) 0
+
+-- The show call: the stretch of the store that it names is the one that document 01 hands back
+pub record Shown (sheet store : Words) (part number first count : ℕ) : Type 0 where
+  pub number-is : number ≡ show sheet store part .number
+  pub first-is : first ≡ firstOf sheet part number
+  pub count-is : count ≡ length (show sheet store part .words)
+  pub words-are : take count (drop first store) ≡ show sheet store part .words
+
+-- An answer's number and counts, each in its word
+pub record Told (a : Answer) (number taken added : ℕ) : Type 0 where
+  pub number-is : number ≡ numberOf a
+  pub taken-is : taken ≡ takenOf a
+  pub added-is : added ≡ addedOf a
+
+-- The fill call and the change call: the whole outcome
+pub record Left (o : Outcome) (number taken added : ℕ) (store : Words) : Type 0 where
+  pub number-is : number ≡ o .number
+  pub taken-is : taken ≡ o .taken
+  pub added-is : added ≡ o .added
+  pub words-are : store ≡ o .words
