@@ -250,13 +250,13 @@ static size_t chain_tables(void)
 static int plans_and_shows(word *sheet, size_t length)
 {
     enum { TIMES = 200 };
-    static word answer[220];
+    static struct oratjolet_answer answer;
     double p = 1e18, q = 1e18, r = 1e18, u = 1e18, floor = pass(TIMES);
     for (int i = 0; i < TIMES; i++) {
         word root, many, first, count, refusal;
         size_t start;
         double a = now();
-        oratjolet_plan(sheet, length, answer);
+        oratjolet_plan(sheet, length, &answer);
         double b = now();
         plain_plan(sheet, length, &root, &many);
         double c = now();

@@ -23,7 +23,8 @@ static const char *const refusals[] = {
     "base run of the wrong length, a count above 65,535, or base tables not lawful",
 };
 
-static uint64_t sheet[WORDS], plan[ORATJOLET_PLAN_WORDS], base[WORDS], store[WORDS], rows[TABLES][WORDS];
+static struct oratjolet_answer plan;
+static uint64_t sheet[WORDS], base[WORDS], store[WORDS], rows[TABLES][WORDS];
 static size_t sheet_length, store_length, row_words[TABLES];
 static char tables[TABLES][LINE], headings[TABLES * 2][LINE];
 static size_t table_count, heading_count, filled;
@@ -131,14 +132,14 @@ static int open_day(void)
 {
     uint64_t taken, added;
     size_t at = 0;
-    uint64_t number = oratjolet_plan(sheet, sheet_length, plan);
+    uint64_t number = oratjolet_plan(sheet, sheet_length, &plan);
     if (number != 0)
         return stop("the sheet is refused", refusals[number]);
     printf("Side tables:");
     for (size_t t = 0; t < sheet[0]; t++)
-        if (plan[ORATJOLET_PLAN_KEPT + t] == 1)
+        if (plan.kept[t] == 1)
             printf(" %s", tables[t]);
-    store_length = plan[ORATJOLET_PLAN_STORE];
+    store_length = plan.store;
     printf("; the store has %llu words\n", (unsigned long long)store_length);
     if (WORDS < store_length)
         return stop("the store is too long for this example", "");

@@ -42,23 +42,22 @@ enum {
 // The kinds of change.
 enum { ORATJOLET_INSERT = 1, ORATJOLET_DELETE = 2, ORATJOLET_UPDATE = 3 };
 
-// Where the fields of a plan stand in its 220 words. A set is eight words for each table: word 8 * t + x is 1 if x is in the set of table t.
-enum {
-    ORATJOLET_PLAN_NUMBER = 0,
-    ORATJOLET_PLAN_TABLES = 1,
-    ORATJOLET_PLAN_ROOT = 2,
-    ORATJOLET_PLAN_STORE = 3,      // how many words a store of this sheet has
-    ORATJOLET_PLAN_KEPT = 4,       // of each of eight tables, 1 if it has a side table
-    ORATJOLET_PLAN_COLUMNS = 12,   // the sets of columns that the side tables show
-    ORATJOLET_PLAN_DEP = 76,       // the sets of parents along promised edges
-    ORATJOLET_PLAN_NEED = 140,     // the sets of tables needed
-    ORATJOLET_PLAN_STARTS = 204,   // of each table, where its side table begins in the store
-    ORATJOLET_PLAN_ROOMS = 212,    // of each table, the room of its side table
-    ORATJOLET_PLAN_WORDS = 220
+// What the plan call answers: 220 words.
+struct oratjolet_answer {
+    uint64_t number;
+    uint64_t tables;        // how many tables the sheet has
+    uint64_t root;          // the table without an edge into it
+    uint64_t store;         // how many words a store of this sheet has
+    uint64_t kept[8];       // 1 if the table has a side table
+    uint64_t columns[8][8]; // columns[t][c] is 1 if table t's side table shows column c
+    uint64_t dep[8][8];     // dep[t][u] is 1 if u is a parent of t along a promised edge
+    uint64_t need[8][8];    // need[t][u] is 1 if t needs u
+    uint64_t starts[8];     // where in the store table t's side table begins
+    uint64_t rooms[8];      // for how many rows it has room
 };
 
-// Derives the side tables and the store's length from a sheet (refusals 1 to 3). A refused plan has zero in every other word.
-uint64_t oratjolet_plan(const uint64_t *sheet, size_t sheet_length, uint64_t plan[220]);
+// Derives the side tables and the store's length from a sheet (refusals 1 to 3). If it is refused, every field but the number is zero.
+uint64_t oratjolet_plan(const uint64_t *sheet, size_t sheet_length, struct oratjolet_answer *answer);
 
 // Fills a store from the base tables (refusals 1, 2, 3, 4, 10, 9): n counts (at most 65,535 each), then the rows, table by table. The old words of the store
 // are not read. *taken is 0 and *added the number of rows on the list.
