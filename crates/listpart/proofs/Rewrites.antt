@@ -25,7 +25,7 @@ use Rattle.store.specs.Parts.{sizeOf, stopOf, wordsIn, countIn, rowsIn, Within,
 use Rattle.listpart.specs.Loose.{Loose, looseRows, Behind}
 
 -- rows laid end to end, as long as the part
-laid-long : (w k : ℕ) (rows : Rows) → Wide w rows → length rows * w ≤ k → length (laid k rows) ≡ k
+pub laid-long : (w k : ℕ) (rows : Rows) → Wide w rows → length rows * w ≤ k → length (laid k rows) ≡ k
 unfolding laid
 laid-long w k rows wide h =
     length-append (flat rows) (replicate (k - length (flat rows)) 0)

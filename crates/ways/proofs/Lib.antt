@@ -1,3 +1,4 @@
+pub mod Stay
 pub mod Sides
 pub mod Grounds
 pub mod Treks

@@ -1,0 +1,39 @@
+// A delete below its tests 1 to 7, on a sound store: contradiction, and then the list's rows and the side row leave.
+use layout::Plan;
+use store::Answer;
+use taken::Taken;
+use ways::Route;
+ghost use Rattle.ways.specs.Grounds.{Lent};
+ghost use Rattle.routes.specs.Ready.{Ready};
+ghost use Rattle.delete.specs.Deletes.{Deletes};
+
+// Row leaves its table, if it is qualified: its shown columns the side table, and a row for each way through it the list.
+pub fn delete(
+    sheet: &[u64],
+    plan: Plan,
+    route: Route,
+    store: &mut [u64],
+    table: usize,
+    row: &[u64],
+) -> Answer
+    requires { ⌜ Ready (now sheet) (now store) plan route ⌝ }
+    requires { ⌜ Lent (now sheet) table (now row) ⌝ }
+    ensures { λ a. ⌜ Deletes (now (sheet .entry)) (now (store .entry)) table (now (row .entry)) a (now (store .exit)) ⌝ }
+{
+    let qualified = ways::is_qualified(sheet, route, store, table, row);
+    if !sides::old_row(sheet, plan, store, table, row, qualified) {
+        return Answer::Refused(8);
+    }
+    if !qualified {
+        return Answer::Done(0, 0);
+    }
+    let list = store::part_of(plan, plan.tables);
+    let mut marks = [0u16; 4096];
+    let a = taken::mark_ways(sheet, route, store, list, table, row, &mut marks);
+    let Taken::All(taken) = a else {
+        return Answer::Refused(8);
+    };
+    store::take_marked(store, list, &marks);
+    sides::take_side(sheet, plan, store, table, row);
+    Answer::Done(taken as u64, 0)
+}

@@ -1,0 +1,87 @@
+// The fill call: the store of a sheet written anew from its base tables, which are tested first.
+use layout::Plan;
+use sheet::Verdict;
+use store::Answer;
+ghost use mathlib.Core.Path.{_≡_};
+ghost use mathlib.Core.Bool.{true};
+ghost use lib.ListN.{length, replicate};
+ghost use Rattle.meaning.specs.Sheet.{sheetOf};
+ghost use Rattle.meaning.specs.Fill as Meant;
+ghost use Rattle.store.specs.Answers.{Says};
+ghost use Rattle.filling.specs.Runs.{goodRun};
+ghost use Rattle.fill.specs.Tested.{Stored, Tested};
+
+// Writes zeros over the whole store.
+fn clear(store: &mut [u64])
+    ensures { λ _. ⌜ now (store .exit) ≡ replicate (length (now (store .entry))) 0 ⌝ }
+{
+    let mut i = 0;
+    while i < store.len() {
+        store[i] = 0;
+        i += 1;
+    }
+}
+
+// Fills from lawful base tables. The first pass counts, and where a count exceeds its room nothing is written.
+fn fill_lawful(
+    sheet: &[u64],
+    plan: Plan,
+    run: &[u64],
+    starts: [usize; 9],
+    numbers: &[u16],
+    store: &mut [u64],
+) -> Answer
+    requires { ⌜ Stored (now sheet) plan (now store) ⌝ }
+    requires { ⌜ Tested (now sheet) (now run) starts (now numbers) ⌝ }
+    ensures { λ a. ⌜ Says (Meant.fill (now (sheet .entry)) (now (store .entry)) (now (run .entry))) a (now (store .exit)) ⌝ }
+{
+    if !fillsides::sides_fit(sheet, plan, run, starts, numbers) {
+        return Answer::Refused(9);
+    }
+    let root = plan.root;
+    let order = outward::order_of(sheet, root);
+    let list = store::part_of(plan, plan.tables);
+    let added = listing::count_list(sheet, run, starts, numbers, root, order);
+    if list.room < added {
+        return Answer::Refused(9);
+    }
+    clear(store);
+    fillsides::write_sides(sheet, plan, run, starts, numbers, store);
+    listing::write_list(sheet, run, starts, numbers, root, order, store, list);
+    Answer::Done(0, added as u64)
+}
+
+// Fills from a base run with good counts: its row numbers are put in key order, 65,535 places for each table, and its tables tested.
+fn fill_run(sheet: &[u64], plan: Plan, run: &[u64], store: &mut [u64]) -> Answer
+    requires { ⌜ Stored (now sheet) plan (now store) ⌝ }
+    requires { ⌜ goodRun (sheetOf (now sheet)) (now run) ≡ true ⌝ }
+    ensures { λ a. ⌜ Says (Meant.fill (now (sheet .entry)) (now (store .entry)) (now (run .entry))) a (now (store .exit)) ⌝ }
+{
+    let starts = base::starts_of(sheet, run);
+    let mut numbers = [0u16; 524280];
+    let mut spare = [0u16; 32768];
+    base::order_tables(sheet, run, starts, &mut numbers, &mut spare);
+    if !base::is_lawful(sheet, run, starts, &numbers) {
+        return Answer::Refused(10);
+    }
+    fill_lawful(sheet, plan, run, starts, &numbers, store)
+}
+
+// Fills the store from base tables: "fill tests 1, 2, 3, 4, 10, 9", and does not read the old store.
+pub fn fill(sheet: &[u64], base: &[u64], store: &mut [u64]) -> Answer
+    ensures { λ a. ⌜ Says (Meant.fill (now (sheet .entry)) (now (store .entry)) (now (base .entry))) a (now (store .exit)) ⌝ }
+{
+    let checked = layout::check(sheet);
+    let v = checked.verdict;
+    let plan = checked.plan;
+    let Verdict::Good = v else {
+        return Answer::Refused(store::number_of(v));
+    };
+    if store.len() != plan.store {
+        return Answer::Refused(4);
+    }
+    if !base::run_ok(sheet, base) {
+        return Answer::Refused(10);
+    }
+    fill_run(sheet, plan, base, store)
+}

@@ -1,0 +1,5 @@
+pub mod Numbers
+pub mod Rows
+pub mod Counts
+pub mod Stores
+pub mod Whole

@@ -1,0 +1,169 @@
+-- A side table's rows as they are written: a row column by column, and each row behind those before it.
+-- Assumes nothing.
+use Prim.Native.Nat.{ℕ, zero, suc, _+_, _*_, _<_, _≤_}
+use mathlib.Core.Path.{_≡_, refl, sym, ap, _∙_, subst}
+use mathlib.Core.Bool.{true, false}
+use mathlib.Core.List.{List, [], _∷_, _++_, map}
+use native.Mathlib.Nat.{not-suc-le-zero, le-of-suc-le-suc, mul-le-mul-right}
+use native.Mathlib.Omega.{arith}
+use lib.Dec.{T}
+use lib.ListN.{length, getD, take, drop, set, replicate, length-map, length-append, take-append-drop}
+use lib.Seq.{take-all}
+use Rattle.lists.specs.Lists.{Words, at, select}
+use Rattle.lists.proofs.Truth.{mem-getD}
+use Rattle.rows.specs.Rows.{Row, Rows, pick}
+use Rattle.rows.specs.Words.{written}
+use Rattle.rows.specs.Regions.{laid}
+use Rattle.rows.proofs.Cut.{Wide, wide-cons}
+use Rattle.rows.proofs.Moves.{written-step}
+use Rattle.meaning.specs.Sheet.{Sheet, width, sheetOf}
+use Rattle.meaning.specs.Plan.{kept, shown}
+use Rattle.meaning.specs.Base.{Tables, rowsOf}
+use Rattle.meaning.specs.Meaning.{qualifiedIn}
+use Rattle.laws.proofs.Lists.{select-append, map-append}
+use Rattle.laws.proofs.Columns.{shown-below}
+use Rattle.laws.proofs.Keys.{wide-sorted}
+use Rattle.laws.proofs.Qualified.{side-kept}
+use Rattle.words.proofs.Words.{n-is}
+use Rattle.filling.specs.Runs.{rowNo}
+use Rattle.filling.specs.Qualifies.{passing, numbered, sideRows}
+use Rattle.filling.proofs.Laid.{laid-none, laid-more}
+use Rattle.filling.proofs.Sides.{side-none, side-hit, side-miss, side-all}
+use Rattle.base.specs.Bases.{tablesOf, numbersOf, Laid}
+use Rattle.base.proofs.Steps.{good-of}
+use Rattle.qualify.specs.Qualifying.{Based, passesNo}
+use Rattle.fillsides.specs.Sides.{sideOf, rowsTo, Front}
+use Rattle.fillsides.proofs.Numbers.{number-is, order-long, order-same, order-up}
+use Rattle.fillsides.proofs.Counts.{passes-all}
+
+-- One row: its columns are the table's, and each is written at its place
+pub column-in : (s : Sheet) (t : ℕ) (columns : List ℕ) (k : ℕ) → columns ≡ shown s t → k < length columns → at columns k < width s t
+column-in s t columns k e h = shown-below s t (at columns k) (rw (← e) (mem-getD 0 columns k h))
+
+picked : (columns : List ℕ) (r : Row) (k : ℕ) → k < length columns → at (pick columns r) k ≡ at r (at columns k)
+picked [] r k h = absurd (not-suc-le-zero h)
+picked (x ∷ columns) r zero h = refl
+picked (x ∷ columns) r (suc k) h = picked columns r k (le-of-suc-le-suc h)
+
+module _ {ws run : Words} {starts : List ℕ} (b : Laid ws run starts) {t i : ℕ} (l : t < at ws 0) (h : i < at run t) where
+  pub column-more : (s x : Words) (place : ℕ) (columns : List ℕ) (k v : ℕ) → columns ≡ shown (sheetOf ws) t → place + length columns ≤ length s → k < length columns
+      → v ≡ at (rowNo (tablesOf ws run) t i) (at columns k) → x ≡ written s place (pick (shown (sheetOf ws) t) (rowNo (tablesOf ws run) t i)) k
+      → set x (place + k) v ≡ written s place (pick (shown (sheetOf ws) t) (rowNo (tablesOf ws run) t i)) (k + 1)
+  column-more s x place columns k v e fits m q inv =
+      let r = rowNo (tablesOf ws run) t i in
+      let shows = shown (sheetOf ws) t in
+      let is : at (pick shows r) k ≡ v = ap (λ (l : List ℕ). at (pick l r) k) (sym e) ∙ picked columns r k m ∙ sym q in
+      ap (λ (v : ℕ). set x (place + k) v) (sym is)
+      ∙ written-step s x place (pick shows r) k (omega arith) (omega (arith, length-map shows (at r), ap length e)) inv
+
+pub columns-end : (s x : Words) (place : ℕ) (v : Row) (k n : ℕ) → k ≤ n → n ≤ k → x ≡ written s place v k → x ≡ written s place v n
+columns-end s x place v k n h l e = let q : k ≡ n = omega arith in e ∙ ap (written s place v) q
+
+-- Rows of the same columns
+wide-picks : (columns : List ℕ) (rows : Rows) → Wide (length columns) (map (pick columns) rows)
+wide-picks columns [] = tt
+wide-picks columns (r ∷ rows) = wide-cons (length columns) (pick columns r) (map (pick columns) rows) (length-map columns (at r)) (wide-picks columns rows)
+
+pub wide-side : (ws run : Words) (t : ℕ) → T (kept (sheetOf ws) t) → Wide (length (shown (sheetOf ws) t)) (sideOf ws run t)
+unfolding sideOf
+wide-side ws run t is =
+    let cols = shown (sheetOf ws) t in
+    let rows = qualifiedIn (sheetOf ws) (tablesOf ws run) (sheetOf ws .n) t in
+    rw (side-kept (sheetOf ws) (tablesOf ws run) t is) (wide-sorted (length cols) (map (pick cols) rows) (wide-picks cols rows))
+
+-- the first rows in key order give no more than all
+side-append : (s : Sheet) (base : Tables) (t : ℕ) (xs ys : List ℕ) → sideRows s base t (xs ++ ys) ≡ sideRows s base t xs ++ sideRows s base t ys
+unfolding sideRows numbered
+side-append s base t xs ys =
+    let row : ℕ → Row = (λ i. getD (rowsOf base t) i []) in
+    let p = passing s base (s .n) t in
+    ap (λ (rows : Rows). map (pick (shown s t)) (select p rows)) (map-append row xs ys)
+    ∙ ap (map (pick (shown s t))) (select-append p (map row xs) (map row ys))
+    ∙ map-append (pick (shown s t)) (select p (map row xs)) (select p (map row ys))
+
+side-front : (s : Sheet) (base : Tables) (t : ℕ) (order : List ℕ) (j : ℕ) → length (sideRows s base t (take j order)) ≤ length (sideRows s base t order)
+side-front s base t order j =
+    let whole : length (sideRows s base t order) ≡ length (sideRows s base t (take j order)) + length (sideRows s base t (drop j order)) =
+    ap (λ (o : List ℕ). length (sideRows s base t o)) (sym (take-append-drop j order)) ∙ ap length (side-append s base t (take j order) (drop j order))
+    ∙ length-append (sideRows s base t (take j order)) (sideRows s base t (drop j order)) in
+    omega arith
+
+module _ {ws run : Words} {starts order : List ℕ} (b : Based ws run starts order) {t : ℕ} (l : t < at ws 0) (is : T (kept (sheetOf ws) t)) where
+  inside : t < sheetOf ws .n
+  inside = omega (arith, n-is ws)
+
+  rows-all : (j : ℕ) → at run t ≤ j → rowsTo ws run order t j ≡ sideOf ws run t
+  unfolding rowsTo sideOf
+  rows-all j h =
+      side-all (sheetOf ws) (good-of ws (b .laid .good)) (tablesOf ws run) t inside is (numbersOf run order t) j (order-same b l) (order-up b l) (b .once t l)
+      (omega (arith, order-long b l))
+
+  rows-few : (j : ℕ) → length (rowsTo ws run order t j) ≤ length (sideOf ws run t)
+  unfolding rowsTo
+  rows-few j =
+      omega (
+        arith,
+        side-front (sheetOf ws) (tablesOf ws run) t (numbersOf run order t) j,
+        ap length (rows-all (at run t) (omega arith)),
+        ap (λ (o : List ℕ). length (sideRows (sheetOf ws) (tablesOf ws run) t o)) (take-all (at run t) (numbersOf run order t) (omega (arith, order-long b l))),
+      )
+
+  wide-rows : (j : ℕ) → Wide (length (shown (sheetOf ws) t)) (rowsTo ws run order t j)
+  unfolding rowsTo sideRows
+  wide-rows j = wide-picks (shown (sheetOf ws) t) (select (passing (sheetOf ws) (tablesOf ws run) (sheetOf ws .n) t) (numbered (rowsOf (tablesOf ws run) t) (take j (numbersOf run order t))))
+
+  pub front-none : (part : Words) → part ≡ replicate (length part) 0 → Front (rowsTo ws run order t 0) (length part) 0 part
+  unfolding rowsTo
+  front-none part zeros =
+      let none = side-none (sheetOf ws) (tablesOf ws run) t (numbersOf run order t) in
+      record { many-are = rw none; words = rw none (zeros ∙ laid-none (length part)); long = refl }
+
+  pub front-end : (size many : ℕ) (part : Words) (j : ℕ) → at run t ≤ j → Front (rowsTo ws run order t j) size many part → Front (sideOf ws run t) size many part
+  front-end size many part j h f = subst (λ (rows : Rows). Front rows size many part) (rows-all j h) f
+
+  -- Row j in key order
+  module _ (size many : ℕ) (part : Words) (j i : ℕ) (f : Front (rowsTo ws run order t j) size many part) (h : j < at run t) (e : i ≡ at order (65535 * t + j)) where
+    number : i ≡ at (numbersOf run order t) j
+    number = e ∙ number-is b l j h
+
+    decides : passesNo ws run (at ws 0) t i ≡ passing (sheetOf ws) (tablesOf ws run) (sheetOf ws .n) t (rowNo (tablesOf ws run) t (at (numbersOf run order t) j))
+    decides = passes-all ws run t i ∙ ap (λ (i : ℕ). passing (sheetOf ws) (tablesOf ws run) (sheetOf ws .n) t (rowNo (tablesOf ws run) t i)) number
+
+    pub front-miss : passesNo ws run (at ws 0) t i ≡ false → Front (rowsTo ws run order t (j + 1)) size many part
+    unfolding rowsTo
+    front-miss q =
+        subst (λ (rows : Rows). Front rows size many part)
+        (sym (side-miss (sheetOf ws) (tablesOf ws run) t (numbersOf run order t) j (omega (arith, order-long b l)) (sym decides ∙ q))) f
+
+    module _ (q : passesNo ws run (at ws 0) t i ≡ true) where
+      more : rowsTo ws run order t (j + 1) ≡ rowsTo ws run order t j ++ (pick (shown (sheetOf ws) t) (rowNo (tablesOf ws run) t i) ∷ [])
+      unfolding rowsTo
+      more =
+          side-hit (sheetOf ws) (tablesOf ws run) t (numbersOf run order t) j (omega (arith, order-long b l)) (sym decides ∙ q)
+          ∙ ap (λ (i : ℕ). sideRows (sheetOf ws) (tablesOf ws run) t (take j (numbersOf run order t)) ++ (pick (shown (sheetOf ws) t) (rowNo (tablesOf ws run) t i) ∷ [])) (sym number)
+
+      more-long : length (rowsTo ws run order t (j + 1)) ≡ many + 1
+      more-long =
+          ap length more ∙ length-append (rowsTo ws run order t j) (pick (shown (sheetOf ws) t) (rowNo (tablesOf ws run) t i) ∷ []) ∙ omega (arith, f .many-are)
+
+      pub front-less : many < length (sideOf ws run t)
+      front-less = omega (arith, more-long, rows-few (j + 1))
+
+      module _ (w : ℕ) (fits : length (sideOf ws run t) * w ≤ size) where
+        pub front-room : many * w + w ≤ size
+        front-room = omega (arith, mul-le-mul-right w front-less)
+
+        pub front-hit : w ≡ length (shown (sheetOf ws) t) → (after : Words)
+            → length after ≡ length part → after ≡ written part (many * w) (pick (shown (sheetOf ws) t) (rowNo (tablesOf ws run) t i)) w
+            → Front (rowsTo ws run order t (j + 1)) size (many + 1) after
+        front-hit same after k a =
+            let rows = rowsTo ws run order t j in
+            let r = pick (shown (sheetOf ws) t) (rowNo (tablesOf ws run) t i) in
+            let wide : Wide w rows = rw same (wide-rows j) in
+            let now : after ≡ laid size (rows ++ (r ∷ [])) =
+            a ∙ rw (f .words, f .many-are) (laid-more w size rows wide r (length-map (shown (sheetOf ws) t) (at (rowNo (tablesOf ws run) t i)) ∙ sym same) (rw (f .many-are) at front-room)) in
+            record {
+              many-are = sym more-long;
+              words = now ∙ ap (laid size) (sym more);
+              long = k ∙ f .long;
+            }

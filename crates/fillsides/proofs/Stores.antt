@@ -1,0 +1,143 @@
+-- A side table's part as it is lent: its columns, its zeros and its room; and the store with one side table more.
+-- Assumes nothing.
+use Prim.Native.Nat.{ℕ, _+_, _-_, _*_, _<_, _≤_}
+use mathlib.Core.Path.{_≡_, sym, ap, _∙_, subst}
+use mathlib.Core.Bool.{true, cond}
+use mathlib.Core.List.{List, [], map}
+use native.Mathlib.Nat.{mul-le-mul-right}
+use native.Mathlib.Omega.{arith}
+use lib.Dec.{T, ltb}
+use lib.ListN.{length, getD, take, drop, set, replicate, length-take, length-drop}
+use lib.Seq.{ext-getD, getD-take, getD-drop}
+use borrow.Author.Tests.{leb-true, le-ltb}
+use borrow.Rule.Slice.PartMut.{putMid}
+use Rattle.lists.specs.Lists.{Words, at}
+use Rattle.lists.specs.Parts.{part}
+use Rattle.rows.specs.Rows.{Rows, rising, pick}
+use Rattle.rows.specs.Regions.{laid, Holds}
+use Rattle.rows.proofs.Sorted.{rising-sorted}
+use Rattle.meaning.specs.Sheet.{room, sheetOf}
+use Rattle.meaning.specs.Plan.{kept, shown, columns, size}
+use Rattle.meaning.specs.Meaning.{sideTable, qualifiedIn}
+use Rattle.meaning.specs.Store.{partRows, partWords}
+use Rattle.laws.proofs.Lists.{at-upTo}
+use Rattle.laws.proofs.Models.{part-side}
+use Rattle.laws.proofs.Columns.{columns-side}
+use Rattle.laws.proofs.Qualified.{side-kept}
+use Rattle.places.specs.Stands.{Stands, withPart}
+use Rattle.places.proofs.Parts.{words-length}
+use Rattle.places.proofs.Writes.{part-lent}
+use Rattle.words.proofs.Words.{n-is}
+use Rattle.layout.specs.declared.Plan.{Plan}
+use Rattle.store.specs.declared.Part.{Part}
+use Rattle.store.specs.Parts.{wordsIn, Lies, Within}
+use Rattle.store.specs.Plans.{GoodPlan, partOf}
+use Rattle.store.proofs.Lying.{stop-is, words-is, lies-within}
+use Rattle.store.proofs.Plans.{part-lies}
+use Rattle.filling.specs.Written.{partly, sideFits}
+use Rattle.filling.proofs.Laid.{laid-none, laid-holds}
+use Rattle.filling.proofs.Models.{partly-many, partly-next, partly-unkept}
+use Rattle.base.specs.Bases.{tablesOf}
+use Rattle.qualify.specs.Qualifying.{Based}
+use Rattle.fillsides.specs.Sides.{sideOf, fitsNo, partlyOf, Front}
+use Rattle.fillsides.proofs.Rows.{wide-side}
+use Rattle.fillsides.proofs.Counts.{unkept-here}
+
+pub tables-in : {ws run : Words} {starts order : List ℕ} → Based ws run starts order → {p : Plan} → GoodPlan (sheetOf ws) p → {t : ℕ} → t < at ws 0
+    → (t ≤ p .tables) × (p .tables ≤ 8)
+tables-in {ws} b plan l = (omega (arith, n-is ws, plan .planned .tables-are), plan .planned .tables-few)
+
+module _ {ws run : Words} {starts order : List ℕ} (b : Based ws run starts order) {p : Plan} (plan : GoodPlan (sheetOf ws) p) {t : ℕ} (l : t < at ws 0)
+    {store : Words} (st : Stands (sheetOf ws) store (partlyOf ws run t)) where
+  inside : t < sheetOf ws .n
+  inside = omega (arith, n-is ws)
+
+  within-n : t ≤ sheetOf ws .n
+  within-n = omega (arith, inside)
+
+  -- an unkept table has none
+  pub store-unkept : getD (p .kept) t 0 ≡ 0 → Stands (sheetOf ws) store (partlyOf ws run (t + 1))
+  unfolding partlyOf
+  store-unkept e = rw (← partly-unkept (sheetOf ws) (tablesOf ws run) t inside (unkept-here ws plan l e)) st
+
+  module _ {q : Part} (e : q ≡ partOf p t) where
+    lies : Lies (sheetOf ws) t q
+    lies = subst (λ (q : Part). Lies (sheetOf ws) t q) (sym e) (part-lies (sheetOf ws) p plan t within-n)
+
+    pub part-within : Within q store
+    part-within = lies-within (sheetOf ws) t q lies (plan .good) store (st .long)
+
+    -- its words: zeros so far
+    abbrev lent : Words
+    lent = take (q .start + q .room * q .columns - q .start) (drop (q .start) store)
+
+    words-are : lent ≡ partWords (sheetOf ws) store t
+    words-are = unfold wordsIn in unfold part in words-is (sheetOf ws) t q lies store
+
+    long : length lent ≡ size (sheetOf ws) t
+    long = ap length words-are ∙ words-length (sheetOf ws) store (st .long) t within-n
+
+    none : partRows (partlyOf ws run t) t ≡ []
+    unfolding partlyOf partly
+    none =
+        part-side (partly (sheetOf ws) (tablesOf ws run) t) (sheetOf ws .n) (partly-many (sheetOf ws) (tablesOf ws run) t) t inside
+        ∙ at-upTo (λ u. cond (ltb u t) (sideTable (sheetOf ws) (tablesOf ws run) u) []) [] (sheetOf ws .n) t inside
+        ∙ rw (le-ltb t t (omega arith))
+
+    pub part-zeros : lent ≡ replicate (length lent) 0
+    part-zeros =
+        let held = st .holds t within-n .words in
+        words-are ∙ held ∙ ap (laid (length (partWords (sheetOf ws) store t))) none ∙ sym (laid-none (length (partWords (sheetOf ws) store t)))
+        ∙ ap (λ (ws : Words). replicate (length ws) 0) (sym words-are)
+
+    module _ (is : T (kept (sheetOf ws) t)) where
+      columns-are : q .columns ≡ length (shown (sheetOf ws) t)
+      columns-are = lies .columns-is ∙ columns-side (sheetOf ws) t inside is
+
+      pub columns-end : 8 * t + q .columns ≤ 64
+      columns-end = omega (arith, columns-are, plan .planned .shown-few t, inside, plan .planned .tables-few, plan .planned .tables-are)
+
+      -- the columns that it shows
+      pub columns-lent : take (8 * t + q .columns - 8 * t) (drop (8 * t) (p .shown)) ≡ shown (sheetOf ws) t
+      columns-lent =
+          let many : length (take (8 * t + q .columns - 8 * t) (drop (8 * t) (p .shown))) ≡ length (shown (sheetOf ws) t) =
+          simp (length-take, length-drop) (omega (arith, columns-are, columns-end, plan .planned .lengths .shown-length)) in
+          ext-getD 0 (take (8 * t + q .columns - 8 * t) (drop (8 * t) (p .shown))) (shown (sheetOf ws) t) many
+          (λ j h. getD-take (8 * t + q .columns - 8 * t) (drop (8 * t) (p .shown)) j 0 (omega (arith, columns-are, many)) ∙ getD-drop (8 * t) (p .shown) j 0
+          ∙ plan .planned .shown-at t j (omega (arith, inside, plan .planned .tables-few, plan .planned .tables-are)) (omega (arith, many, plan .planned .shown-few t)))
+
+      module _ (fits : fitsNo ws run t ≡ true) where
+        room-for : length (sideOf ws run t) ≤ room (sheetOf ws) t
+        unfolding fitsNo sideFits sideOf
+        room-for = leb-true (length (sideTable (sheetOf ws) (tablesOf ws run) t)) (room (sheetOf ws) t) fits
+
+        fits-size : length (sideOf ws run t) * columns (sheetOf ws) t ≤ size (sheetOf ws) t
+        unfolding size
+        fits-size = mul-le-mul-right (columns (sheetOf ws) t) room-for
+
+        pub part-room : length (sideOf ws run t) * length (take (8 * t + q .columns - 8 * t) (drop (8 * t) (p .shown))) ≤ length lent
+        part-room = rw (columns-lent, ← columns-side (sheetOf ws) t inside is, long) fits-size
+
+        -- written
+        pub store-written : (many : ℕ) (after : Words) → Front (sideOf ws run t) (length lent) many after
+            → Stands (sheetOf ws) (set (putMid (q .start) (q .start + q .room * q .columns - q .start) store after) (q .slot) many) (partlyOf ws run (t + 1))
+        store-written many after f =
+            let rows = sideOf ws run t in
+            let up : T (rising rows) = rises in
+            let held : Holds (columns (sheetOf ws) t) (length rows) rows (laid (size (sheetOf ws) t) rows) =
+            laid-holds (columns (sheetOf ws) t) (size (sheetOf ws) t) rows (rw (columns-side (sheetOf ws) t inside is) (wide-side ws run t is)) fits-size up in
+            let now : after ≡ laid (size (sheetOf ws) t) rows = f .words ∙ ap (λ (k : ℕ). laid k rows) long in
+            rw (← next)
+            (part-lent (sheetOf ws) (plan .good) store (partlyOf ws run t) st t within-n rows many after (q .start) (q .start + q .room * q .columns) (q .slot)
+            (lies .start-is) (stop-is (sheetOf ws) t q lies) (lies .slot-is) (rw (f .many-are, now) held) (f .long ∙ long))
+          where
+            rises : T (rising (sideOf ws run t))
+            rises =
+                unfold sideOf in subst (λ (rows : Rows). T (rising rows)) (sym (side-kept (sheetOf ws) (tablesOf ws run) t is))
+                (rising-sorted (map (pick (shown (sheetOf ws) t)) (qualifiedIn (sheetOf ws) (tablesOf ws run) (sheetOf ws .n) t)))
+
+            next : withPart (partlyOf ws run t) t (sideOf ws run t) ≡ partlyOf ws run (t + 1)
+            next = unfold partlyOf in unfold sideOf in partly-next (sheetOf ws) (tablesOf ws run) t inside
+
+pub store-end : (ws run store : Words) (t n : ℕ) → t ≤ n → n ≤ t → Stands (sheetOf ws) store (partlyOf ws run t) → Stands (sheetOf ws) store (partlyOf ws run n)
+store-end ws run store t n h l st = let e : t ≡ n = omega arith in rw (← e) st

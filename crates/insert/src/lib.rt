@@ -1,0 +1,41 @@
+// An insert below its tests 1 to 7, on a sound store: contradiction, room, and then the list's rows and the side row.
+use layout::Plan;
+use store::Answer;
+use ways::Route;
+ghost use Rattle.routes.specs.Ready.{Ready};
+ghost use Rattle.ways.specs.Grounds.{Lent};
+ghost use Rattle.insert.specs.Inserts.{Inserts};
+
+// Row enters its table, if it is qualified: its shown columns the side table, and a row for each way through it the list.
+pub fn insert(
+    sheet: &[u64],
+    plan: Plan,
+    route: Route,
+    store: &mut [u64],
+    table: usize,
+    row: &[u64],
+) -> Answer
+    requires { ⌜ Ready (now sheet) (now store) plan route ⌝ }
+    requires { ⌜ Lent (now sheet) table (now row) ⌝ }
+    ensures { λ a. ⌜ Inserts (now (sheet .entry)) (now (store .entry)) table (now (row .entry)) a (now (store .exit)) ⌝ }
+{
+    if !sides::new_key(sheet, plan, store, table, row) {
+        return Answer::Refused(8);
+    }
+    if !ways::is_qualified(sheet, route, store, table, row) {
+        return Answer::Done(0, 0);
+    }
+    if !sides::has_room(sheet, plan, store, table) {
+        return Answer::Refused(9);
+    }
+    let list = store::part_of(plan, plan.tables);
+    let slot = list.slot;
+    let count = store[slot] as usize;
+    let added = added::count_ways(sheet, route, store, table, row);
+    if list.room - count < added {
+        return Answer::Refused(9);
+    }
+    added::add_ways(sheet, route, store, list, table, row);
+    sides::put_side(sheet, plan, store, table, row);
+    Answer::Done(0, added as u64)
+}

@@ -1,0 +1,4 @@
+pub mod Treks
+pub mod Entries
+pub mod Gains
+pub mod Writes

@@ -1,0 +1,4 @@
+pub mod Shown
+pub mod Parts
+pub mod Tests
+pub mod Writes

@@ -1,0 +1,124 @@
+-- The list rows that an update replaces: which are marked, and that they are rewritten in place and settled.
+-- Assumes nothing.
+use Prim.Native.Nat.{ℕ, _<_, _≤_}
+use mathlib.Core.Path.{_≡_, refl, sym, ap, _∙_, subst}
+use mathlib.Core.Bool.{Bool, true, false, not, _||_}
+use mathlib.Core.Logic.{inl, inr, ⊎-elim}
+use native.Mathlib.Omega.{arith}
+use lib.Dec.{T, eqb}
+use lib.ListN.{length, getD}
+use Rattle.lists.specs.Lists.{Words, at, all}
+use Rattle.lists.specs.Parts.{splice}
+use Rattle.lists.proofs.Truth.{F→≡, or-inl, or-inr, or-cases, eq→eqb, eqb→≡}
+use Rattle.rows.specs.Rows.{Row, Rows, sameRow, sorted}
+use Rattle.rows.proofs.Cut.{cut-length}
+use Rattle.meaning.specs.Sheet.{Sheet, sheetOf}
+use Rattle.meaning.specs.Plan.{root, kept}
+use Rattle.meaning.specs.Meaning.{Model}
+use Rattle.meaning.specs.Store.{modelOf}
+use Rattle.meaning.specs.Change.{qualifies, canTake, rowsFound, withColumns, foundShow}
+use Rattle.walks.specs.Marks.{altered, isMarked}
+use Rattle.walks.proofs.Marks.{length-altered}
+use Rattle.effects.specs.Applied.{replacedRows}
+use Rattle.effects.proofs.Marking.{replaced-walks, shows-walks}
+use Rattle.layout.specs.declared.Plan.{Plan}
+use Rattle.columns.specs.Gives.{gives, given}
+use Rattle.ways.specs.declared.Route.{Route}
+use Rattle.ways.specs.Climbing.{ByKey}
+use Rattle.ways.proofs.Grounds.{root-table, eight}
+use Rattle.store.specs.declared.Part.{Part}
+use Rattle.store.specs.Parts.{stopOf, wordsIn, countIn, rowsIn, Kept, Wrote}
+use Rattle.store.proofs.Plans.{marked, unmarked}
+use Rattle.listpart.specs.Loose.{Loose, looseRows, Behind}
+use Rattle.listpart.proofs.Rewrites.{behind-loose, behind-rows, behind-wrote}
+use Rattle.listpart.proofs.Altered.{behind-given}
+use Rattle.routes.specs.Ready.{Ready}
+use Rattle.written.proofs.Halves.{ready-good, ready-ground}
+use Rattle.taken.specs.declared.Taken.{Taken}
+use Rattle.taken.specs.declared.Taken.the-variants.{All, Contrary}
+use Rattle.taken.specs.Taking.{WaysTaken, FoundTaken}
+use Rattle.update.specs.Updates.{ReplacedTaken}
+
+-- where no way can be taken, the rows found by key are replaced
+module _ (s : Sheet) (m : Model) (t : ℕ) (r : Row) (no-way : T (canTake s t) → ⊥) where
+  replaced-found : replacedRows s m t r ≡ rowsFound s m t r
+  unfolding replacedRows
+  replaced-found = rw (F→≡ (canTake s t) no-way)
+
+  shows-yes : all (λ row. sameRow row (withColumns (s .listed) t r row)) (rowsFound s m t r) ≡ true → foundShow s m t r ≡ true
+  unfolding foundShow
+  shows-yes e = rw (F→≡ (canTake s t) no-way, e) (go (not (qualifies s m t r)))
+    where
+      go : (a : Bool) → (a || false || true) ≡ true
+      go true = refl
+      go false = refl
+
+  shows-no : all (λ row. sameRow row (withColumns (s .listed) t r row)) (rowsFound s m t r) ≡ false → qualifies s m t r ≡ true → foundShow s m t r ≡ false
+  unfolding foundShow
+  shows-no e q = rw (F→≡ (canTake s t) no-way, q, e)
+
+pub root-in : {ws store : Words} {plan : Plan} {p : Route} → Ready ws store plan p → p .root < 8
+root-in rd = let g = ready-ground rd in omega (arith, root-table g, eight g)
+
+module _ {ws store : Words} {plan : Plan} {p : Route} (rd : Ready ws store plan p) (t : ℕ) (r : Row) (marks : Words) where
+  by-ways : T (canTake (sheetOf ws) t) → (a : Taken) → WaysTaken ws store t r marks a → ReplacedTaken ws store t r marks a
+  by-ways can (All k) h =
+      let s = sheetOf ws in
+      let m = modelOf s store in
+      rw (replaced-walks s m t r can) (h .0, shows-walks s m t r can, h .1)
+  by-ways can Contrary h = λ q.
+      let s = sheetOf ws in
+      let m = modelOf s store in
+      inr (shows-walks s m t r can, rw (replaced-walks s m t r can) h)
+
+  -- the row is one of the root's
+  pub by-root : t ≡ p .root → (a : Taken) → WaysTaken ws store t r marks a → ReplacedTaken ws store t r marks a
+  unfolding canTake
+  by-root e a h = by-ways (or-inl (eqb t (root (sheetOf ws))) (kept (sheetOf ws) (root (sheetOf ws))) (eq→eqb (e ∙ rd .routed .root-is))) a h
+
+  root-kept : (getD (plan .kept) (p .root) 0 ≡ 0 → ⊥) → T (kept (sheetOf ws) (root (sheetOf ws)))
+  root-kept d = marked (sheetOf ws) plan (rd .planned) (root (sheetOf ws)) (ready-good rd .root-in) (λ e. d (ap (λ (u : ℕ). getD (plan .kept) u 0) (rd .routed .root-is) ∙ e))
+
+  -- the root has a side table
+  pub by-kept : (getD (plan .kept) (p .root) 0 ≡ 0 → ⊥) → (a : Taken) → WaysTaken ws store t r marks a → ReplacedTaken ws store t r marks a
+  unfolding canTake
+  by-kept d a h = by-ways (or-inr (eqb t (root (sheetOf ws))) (kept (sheetOf ws) (root (sheetOf ws))) (root-kept d)) a h
+
+  -- neither
+  module _ (d : t ≡ p .root → ⊥) (e : getD (plan .kept) (p .root) 0 ≡ 0) where
+    pub no-way : ByKey ws t
+    unfolding canTake
+    no-way h =
+        ⊎-elim (λ k. d (eqb→≡ t (root (sheetOf ws)) k ∙ sym (rd .routed .root-is)))
+        (λ k. unmarked (sheetOf ws) plan (rd .planned) (root (sheetOf ws)) (ready-good rd .root-in) (ap (λ (u : ℕ). getD (plan .kept) u 0) (sym (rd .routed .root-is)) ∙ e) k)
+        (or-cases (eqb t (root (sheetOf ws))) (kept (sheetOf ws) (root (sheetOf ws))) h)
+
+    pub by-key : (a : Taken) → FoundTaken ws store t r marks a → ReplacedTaken ws store t r marks a
+    by-key (All k) h =
+        let s = sheetOf ws in
+        let m = modelOf s store in
+        rw (replaced-found s m t r no-way) (h .0, shows-yes s m t r no-way (h .1), h .2)
+    by-key Contrary h = λ q. inl (shows-no (sheetOf ws) (modelOf (sheetOf ws) store) t r no-way h q)
+
+-- The marked rows get the new row's columns where they stand, and are settled
+module _ (sheet : Words) (t : ℕ) (r : Row) (marks : Words) (p : Part) (old : Words) (k : Kept p old) (few : countIn p old ≤ p .room) (w : p .columns ≡ at sheet 3)
+    (mid : Words) (e : mid ≡ splice old (p .start) (stopOf p) (given sheet t r marks (countIn p old) (wordsIn p old))) where
+  rows : Rows
+  rows = altered (isMarked marks) (gives sheet t r) (rowsIn p old)
+
+  behind : Behind p old rows mid
+  unfolding rows
+  behind = behind-given sheet t r marks p old k few w mid e
+
+  many : length rows ≡ countIn p old
+  unfolding rows rowsIn
+  many = length-altered (isMarked marks) (gives sheet t r) (rowsIn p old) ∙ cut-length (p .columns) (countIn p old) (wordsIn p old)
+
+  pub given-loose : Loose p (countIn p old) mid
+  given-loose = subst (λ (n : ℕ). Loose p n mid) many (behind-loose p old (k .within) rows mid behind)
+
+  pub given-settled : (exit : Words) → Wrote p (sorted (looseRows p (countIn p old) mid)) mid exit → Wrote p (sorted (altered (isMarked marks) (gives sheet t r) (rowsIn p old))) old exit
+  unfolding rows
+  given-settled exit wr =
+      behind-wrote p old (k .within) rows mid behind (sorted rows) exit
+      (subst (λ (l : Rows). Wrote p (sorted l) mid exit) (ap (λ (n : ℕ). looseRows p n mid) (sym many) ∙ behind-rows p old (k .within) rows mid behind) wr)
