@@ -1,0 +1,32 @@
+// A change below its tests, on a sound store: what it does to it and what it answers. The store is sound again after it.
+use layout::Plan;
+use store::Answer;
+use ways::Route;
+ghost use mathlib.Core.Path.{_≡_};
+ghost use Rattle.sheet.specs.declared.Verdict.the-variants.{Good};
+ghost use Rattle.kinds.specs.Asked.{changeOf, askedOf};
+ghost use Rattle.routes.specs.Ready.{Ready};
+ghost use Rattle.apply.specs.Applies.{Applies};
+
+// The change that was asked for, by its kind; no other kind passes the tests.
+pub fn apply(
+    sheet: &[u64],
+    plan: Plan,
+    route: Route,
+    store: &mut [u64],
+    kind: u64,
+    table: usize,
+    old: &[u64],
+    new: &[u64],
+) -> Answer
+    requires { ⌜ Ready (now sheet) (now store) plan route ⌝ }
+    requires { ⌜ askedOf (now sheet) (changeOf kind table (now old) (now new)) ≡ Good ⌝ }
+    ensures { λ a. ⌜ Applies (now (sheet .entry)) (now (store .entry)) (changeOf kind table (now (old .entry)) (now (new .entry))) a (now (store .exit)) ⌝ }
+{
+    match kind {
+        1 => insert::insert(sheet, plan, route, store, table, new),
+        2 => delete::delete(sheet, plan, route, store, table, old),
+        3 => update::update(sheet, plan, route, store, table, old, new),
+        0 | 4..=u64::MAX => Answer::Refused(5),
+    }
+}
