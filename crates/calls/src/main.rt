@@ -129,6 +129,37 @@ fn reply_plan(bytes: &mut [u8], sheet: &[u64]) -> Step {
     reply_answer(bytes, number, &answer)
 }
 
+fn reply_fill(bytes: &mut [u8], sheet: &[u64], base: &[u64], store: &mut [u64]) -> Step {
+    let mut taken: u64 = 0;
+    let mut added: u64 = 0;
+    let number = oratjolet::oratjolet_fill(sheet, base, store, &mut taken, &mut added);
+    reply(bytes, number, taken, added, store)
+}
+
+fn reply_change(
+    bytes: &mut [u8],
+    sheet: &[u64],
+    store: &mut [u64],
+    kind: u64,
+    table: u64,
+    old: &[u64],
+    new: &[u64],
+) -> Step {
+    let mut taken: u64 = 0;
+    let mut added: u64 = 0;
+    let number = oratjolet::oratjolet_change(
+        sheet,
+        store,
+        kind,
+        table,
+        old,
+        new,
+        &mut taken,
+        &mut added,
+    );
+    reply(bytes, number, taken, added, store)
+}
+
 fn reply_show(bytes: &mut [u8], sheet: &[u64], store: &[u64], part: u64) -> Step {
     let mut first: u64 = 0;
     let mut count: u64 = 0;
@@ -136,8 +167,49 @@ fn reply_show(bytes: &mut [u8], sheet: &[u64], store: &[u64], part: u64) -> Step
     reply(bytes, number, first, count, store)
 }
 
-// Reads the rest of a call whose head has been read, and answers it.
+// Reads the runs of a call whose head has been read. False if the input ends before.
+fn read_runs(
+    bytes: &mut [u8],
+    sheet: &mut [u64],
+    base: &mut [u64],
+    store: &mut [u64],
+    old: &mut [u64],
+    new: &mut [u64],
+) -> bool {
+    if !read_words(bytes, sheet) {
+        return false;
+    }
+    if !read_words(bytes, base) {
+        return false;
+    }
+    if !read_words(bytes, store) {
+        return false;
+    }
+    if !read_words(bytes, old) {
+        return false;
+    }
+    read_words(bytes, new)
+}
+
 fn answer(
+    head: [u64; 8],
+    bytes: &mut [u8],
+    sheet: &[u64],
+    base: &[u64],
+    store: &mut [u64],
+    old: &[u64],
+    new: &[u64],
+) -> Step {
+    match head[0] {
+        1 => reply_plan(bytes, sheet),
+        2 => reply_fill(bytes, sheet, base, store),
+        3 => reply_change(bytes, sheet, store, head[6], head[7], old, new),
+        4 => reply_show(bytes, sheet, store, head[6]),
+        0 | 5..=u64::MAX => Step::Unknown,
+    }
+}
+
+fn read_and_answer(
     head: [u64; 8],
     bytes: &mut [u8],
     sheet: &mut [u64],
@@ -146,26 +218,10 @@ fn answer(
     old: &mut [u64],
     new: &mut [u64],
 ) -> Step {
-    if !read_words(bytes, sheet) {
+    if !read_runs(bytes, sheet, base, store, old, new) {
         return Step::Short;
     }
-    if !read_words(bytes, base) {
-        return Step::Short;
-    }
-    if !read_words(bytes, store) {
-        return Step::Short;
-    }
-    if !read_words(bytes, old) {
-        return Step::Short;
-    }
-    if !read_words(bytes, new) {
-        return Step::Short;
-    }
-    match head[0] {
-        1 => reply_plan(bytes, sheet),
-        4 => reply_show(bytes, sheet, store, head[6]),
-        0 | 2..=3 | 5..=u64::MAX => Step::Unknown,
-    }
+    answer(head, bytes, sheet, base, store, old, new)
 }
 
 // Reads a call and answers it.
@@ -207,7 +263,7 @@ fn one_call(
     if new.len() < n {
         return Step::Long;
     }
-    answer(
+    read_and_answer(
         head,
         bytes,
         &mut sheet[..s],

@@ -1,3 +1,2 @@
 pub mod Plans
 pub mod Shows
-pub mod Tells

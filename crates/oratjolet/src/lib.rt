@@ -5,8 +5,11 @@ ghost use mathlib.Core.Path.{_≡_};
 ghost use Prim.Native.Nat.{_+_, _≤_};
 ghost use mathlib.Core.List.{_++_};
 ghost use lib.ListN.{length};
+ghost use Rattle.meaning.specs.Change.{change};
+ghost use Rattle.meaning.specs.Fill.{fill};
+ghost use Rattle.kinds.specs.Asked.{changeOf};
 ghost use Rattle.text.specs.Writing.{Wrote};
-ghost use Rattle.oratjolet.specs.Exports.{planWords, Planned, Shown, Told};
+ghost use Rattle.oratjolet.specs.Exports.{planWords, Planned, Shown, Told, Left};
 
 // Writes the words from `at` on, and answers where they end.
 fn put(words: &[u64], out: &mut [u64], at: usize) -> usize
@@ -129,4 +132,37 @@ fn tell(a: Answer, taken: &mut u64, added: &mut u64) -> u64
             k
         }
     }
+}
+
+// The fill call: its number, the rows taken from the list, 0, and those on it, and the store from the base tables.
+#[no_mangle]
+pub extern "C" fn oratjolet_fill(
+    sheet: &[u64],
+    base: &[u64],
+    store: &mut [u64],
+    taken: &mut u64,
+    added: &mut u64,
+) -> u64
+    ensures { λ k. ⌜ Left (fill (now (sheet .entry)) (now (store .entry)) (now (base .entry))) k (now (taken .exit)) (now (added .exit)) (now (store .exit)) ⌝ }
+{
+    let a = fill::fill(sheet, base, store);
+    tell(a, taken, added)
+}
+
+// The change call: its number, the rows taken from the list and added to it, and the store brought up to date.
+#[no_mangle]
+pub extern "C" fn oratjolet_change(
+    sheet: &[u64],
+    store: &mut [u64],
+    kind: u64,
+    table: u64,
+    old: &[u64],
+    new: &[u64],
+    taken: &mut u64,
+    added: &mut u64,
+) -> u64
+    ensures { λ k. ⌜ Left (change (now (sheet .entry)) (now (store .entry)) (changeOf kind table (now (old .entry)) (now (new .entry)))) k (now (taken .exit)) (now (added .exit)) (now (store .exit)) ⌝ }
+{
+    let a = change::change(sheet, store, kind, table, old, new);
+    tell(a, taken, added)
 }

@@ -57,38 +57,38 @@ returns-6 c = search needs
 returns-7 : tie.Need-returns-7
 returns-7 c = search needs
 
-slice-relend-prefix-answer : tie.Need-slice-relend-prefix-answer
-slice-relend-prefix-answer c = search needs
+slice-relend-prefix-read-and-answer : tie.Need-slice-relend-prefix-read-and-answer
+slice-relend-prefix-read-and-answer c = search needs
 
-slice-aggregate-answer : tie.Need-slice-aggregate-answer
-slice-aggregate-answer c = sym (length-take-le _ _ (slice-relend-prefix-answer (c .before)))
+slice-aggregate-read-and-answer : tie.Need-slice-aggregate-read-and-answer
+slice-aggregate-read-and-answer c = sym (length-take-le _ _ (slice-relend-prefix-read-and-answer (c .before)))
 
-slice-relend-prefix-answer-2 : tie.Need-slice-relend-prefix-answer-2
-slice-relend-prefix-answer-2 c = search needs
+slice-relend-prefix-read-and-answer-2 : tie.Need-slice-relend-prefix-read-and-answer-2
+slice-relend-prefix-read-and-answer-2 c = search needs
 
-slice-aggregate-answer-2 : tie.Need-slice-aggregate-answer-2
-slice-aggregate-answer-2 c = sym (length-take-le _ _ (slice-relend-prefix-answer-2 (c .before)))
+slice-aggregate-read-and-answer-2 : tie.Need-slice-aggregate-read-and-answer-2
+slice-aggregate-read-and-answer-2 c = sym (length-take-le _ _ (slice-relend-prefix-read-and-answer-2 (c .before)))
 
-slice-relend-prefix-answer-3 : tie.Need-slice-relend-prefix-answer-3
-slice-relend-prefix-answer-3 c = search needs
+slice-relend-prefix-read-and-answer-3 : tie.Need-slice-relend-prefix-read-and-answer-3
+slice-relend-prefix-read-and-answer-3 c = search needs
 
-slice-aggregate-answer-3 : tie.Need-slice-aggregate-answer-3
-slice-aggregate-answer-3 c = sym (length-take-le _ _ (slice-relend-prefix-answer-3 (c .before)))
+slice-aggregate-read-and-answer-3 : tie.Need-slice-aggregate-read-and-answer-3
+slice-aggregate-read-and-answer-3 c = sym (length-take-le _ _ (slice-relend-prefix-read-and-answer-3 (c .before)))
 
-slice-relend-prefix-answer-4 : tie.Need-slice-relend-prefix-answer-4
-slice-relend-prefix-answer-4 c = search needs
+slice-relend-prefix-read-and-answer-4 : tie.Need-slice-relend-prefix-read-and-answer-4
+slice-relend-prefix-read-and-answer-4 c = search needs
 
-slice-aggregate-answer-4 : tie.Need-slice-aggregate-answer-4
-slice-aggregate-answer-4 c = sym (length-take-le _ _ (slice-relend-prefix-answer-4 (c .before)))
+slice-aggregate-read-and-answer-4 : tie.Need-slice-aggregate-read-and-answer-4
+slice-aggregate-read-and-answer-4 c = sym (length-take-le _ _ (slice-relend-prefix-read-and-answer-4 (c .before)))
 
-slice-relend-prefix-answer-5 : tie.Need-slice-relend-prefix-answer-5
-slice-relend-prefix-answer-5 c = search needs
+slice-relend-prefix-read-and-answer-5 : tie.Need-slice-relend-prefix-read-and-answer-5
+slice-relend-prefix-read-and-answer-5 c = search needs
 
-slice-aggregate-answer-5 : tie.Need-slice-aggregate-answer-5
-slice-aggregate-answer-5 c = sym (length-take-le _ _ (slice-relend-prefix-answer-5 (c .before)))
+slice-aggregate-read-and-answer-5 : tie.Need-slice-aggregate-read-and-answer-5
+slice-aggregate-read-and-answer-5 c = sym (length-take-le _ _ (slice-relend-prefix-read-and-answer-5 (c .before)))
 
-answer-requires : tie.Need-answer-requires
-answer-requires c κs = search needs
+read-and-answer-requires : tie.Need-read-and-answer-requires
+read-and-answer-requires c κs = search needs
 
 same-length : tie.Need-same-length
 same-length c = search needs
@@ -132,17 +132,17 @@ one-call-spec =
     returns-5
     returns-6
     returns-7
-    slice-relend-prefix-answer
-    slice-aggregate-answer
-    slice-relend-prefix-answer-2
-    slice-aggregate-answer-2
-    slice-relend-prefix-answer-3
-    slice-aggregate-answer-3
-    slice-relend-prefix-answer-4
-    slice-aggregate-answer-4
-    slice-relend-prefix-answer-5
-    slice-aggregate-answer-5
-    answer-requires
+    slice-relend-prefix-read-and-answer
+    slice-aggregate-read-and-answer
+    slice-relend-prefix-read-and-answer-2
+    slice-aggregate-read-and-answer-2
+    slice-relend-prefix-read-and-answer-3
+    slice-aggregate-read-and-answer-3
+    slice-relend-prefix-read-and-answer-4
+    slice-aggregate-read-and-answer-4
+    slice-relend-prefix-read-and-answer-5
+    slice-aggregate-read-and-answer-5
+    read-and-answer-requires
     same-length
     same-length-2
     same-length-3
