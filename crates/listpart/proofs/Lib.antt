@@ -1,2 +1,3 @@
 pub mod Rewrites
 pub mod Altered
+pub mod Lists

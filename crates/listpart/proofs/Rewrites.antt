@@ -132,22 +132,29 @@ module _ (p : Part) (old : Words) (win : Within p old) (rows : Rows) (ws : Words
   words-are : wordsIn p ws ≡ laid (sizeOf p) rows
   words-are = ap (wordsIn p) (be .words) ∙ words-anew p old win (laid (sizeOf p) rows) long
 
-  -- they can be settled, and are then written into the old store
-  pub behind-loose : Loose p (length rows) ws
+  rows-are : looseRows p (length rows) ws ≡ rows
+  unfolding looseRows laid
+  rows-are = ap (cut (p .columns) (length rows)) words-are ∙ cut-flat (p .columns) rows (replicate (sizeOf p - length (flat rows)) 0) (be .wide)
+
+  loose : Loose p (length rows) ws
   unfolding laid
-  behind-loose =
+  loose =
       record {
         within = behind-within;
         fits = be .fits;
         zeros = subst (λ (l : Words). T (all (eqb 0) l)) (sym (ap (drop (length rows * p .columns)) words-are ∙ drop-at (flat rows) (replicate (sizeOf p - length (flat rows)) 0) (length rows * p .columns) flat-long)) (all-zeros (sizeOf p - length (flat rows)));
       }
 
-  pub behind-rows : looseRows p (length rows) ws ≡ rows
-  unfolding looseRows laid
-  behind-rows = ap (cut (p .columns) (length rows)) words-are ∙ cut-flat (p .columns) rows (replicate (sizeOf p - length (flat rows)) 0) (be .wide)
+  -- counted, they can be settled, and are then written into the old store
+  module _ (k : ℕ) (many : k ≡ length rows) where
+    pub behind-loose : Loose p k ws
+    behind-loose = subst (λ (n : ℕ). Loose p n ws) (sym many) loose
 
-  pub behind-wrote : (new : Rows) (exit : Words) → Wrote p new ws exit → Wrote p new old exit
-  behind-wrote new exit w = wrote-over p old win (laid (sizeOf p) rows) long new exit (subst (λ (l : Words). Wrote p new l exit) (be .words) w)
+    pub behind-settled : (exit : Words) → Wrote p (sorted (looseRows p k ws)) ws exit → Wrote p (sorted rows) old exit
+    behind-settled exit w =
+        wrote-over p old win (laid (sizeOf p) rows) long (sorted rows) exit
+        (subst (λ (l : Words). Wrote p (sorted rows) l exit) (be .words)
+        (subst (λ (l : Rows). Wrote p (sorted l) ws exit) (ap (λ (n : ℕ). looseRows p n ws) many ∙ rows-are) w))
 
   -- one row more
   module _ (r : Row) (wide : length r ≡ p .columns) (l : length rows < p .room) where

@@ -1,21 +1,22 @@
 -- What the tests of a side table find is what the definition says, for an unkept table and for a kept one.
 -- Assumes nothing.
-use Prim.Native.Nat.{ℕ, _<_}
-use mathlib.Core.Path.{_≡_, sym, ap, ap₂, _∙_}
-use mathlib.Core.Bool.{Bool, true, false, not}
+use Prim.Native.Nat.{ℕ, _<_, _≤_}
+use mathlib.Core.Path.{_≡_, refl, sym, ap, ap₂, _∙_}
+use mathlib.Core.Bool.{Bool, true, false, not, _||_}
 use native.Mathlib.Omega.{arith}
-use lib.Dec.{T, ltb}
+use lib.Dec.{T, ltb, ltb→lt}
 use lib.ListN.{getD}
+use borrow.Author.Tests.{ltb-false}
 use Rattle.lists.specs.Lists.{Words, at}
-use Rattle.lists.proofs.Truth.{T→≡, F→≡}
+use Rattle.lists.proofs.Truth.{T→≡, F→≡, false→F}
 use Rattle.rows.specs.Rows.{Row, Rows, key, pick, rising, hasRow, hasKey}
 use Rattle.rows.specs.Ranks.{foundRow, foundKey}
 use Rattle.rows.specs.declared.Found.{Found}
 use Rattle.rows.specs.declared.Found.the-variants.{At, Missing}
 use Rattle.rows.proofs.Ranks.{found-row, missing-row, found-key, missing-key}
-use Rattle.meaning.specs.Sheet.{Sheet}
+use Rattle.meaning.specs.Sheet.{Sheet, room}
 use Rattle.meaning.specs.Plan.{kept, shown}
-use Rattle.meaning.specs.Store.{modelOf, rowsAt, sound}
+use Rattle.meaning.specs.Store.{modelOf, rowsAt, count, sound}
 use Rattle.meaning.specs.Change.{qualifies, newKey, oldRow}
 use Rattle.laws.proofs.Models.{part-side}
 use Rattle.laws.proofs.Stores.{sound-get, model-many, model-side, sound-proper}
@@ -84,3 +85,18 @@ module _ (s : Sheet) (p : Plan) (plan : GoodPlan s p) (t : ℕ) (l : t < s .n) (
     pub room-is : ltb (at ws t) (getD (p .rooms) t 0) ≡ hasRoom s ws t
     unfolding hasRoom
     room-is = rw yes (ap₂ ltb (ap (at ws) (sym (slot-table s t l))) (plan .planned .rooms-at t (omega arith)))
+
+-- read back: a side table without room is kept and full; one with room, if it is kept, has room for a row
+module _ (s : Sheet) (ws : Words) (t : ℕ) where
+  pub room-full : hasRoom s ws t ≡ false → T (kept s t) × (room s t ≤ count s ws t)
+  unfolding hasRoom
+  room-full e = go (kept s t) (ltb (count s ws t) (room s t)) refl e
+    where
+      go : (a b : Bool) → ltb (count s ws t) (room s t) ≡ b → (not a || b) ≡ false → T a × (room s t ≤ count s ws t)
+      go true false z e = (tt, ltb-false (count s ws t) (room s t) z)
+      go true true z e = absurd (false→F e tt)
+      go false b z e = absurd (false→F e tt)
+
+  pub room-free : T (hasRoom s ws t) → T (kept s t) → count s ws t < room s t
+  unfolding hasRoom
+  room-free h k = ltb→lt (count s ws t) (room s t) (rw (T→≡ (kept s t) k) at h)

@@ -4,10 +4,10 @@ use Prim.Native.Nat.{ℕ, _<_}
 use mathlib.Core.Path.{_≡_, sym, ap, ap₂, _∙_, subst}
 use mathlib.Core.List.{[]}
 use native.Mathlib.Omega.{arith}
-use lib.Dec.{T, ltb→lt}
+use lib.Dec.{T}
 use lib.ListN.{length, getD, set, take}
-use Rattle.lists.specs.Lists.{Words, at}
-use Rattle.lists.proofs.Truth.{T→≡, false→F}
+use Rattle.lists.specs.Lists.{Words}
+use Rattle.lists.proofs.Truth.{false→F}
 use Rattle.rows.specs.Rows.{Row, Rows, pick, rising, putRow, putRows, takeRow, takeRows}
 use Rattle.rows.specs.Ranks.{foundRow}
 use Rattle.rows.specs.declared.Found.{Found}
@@ -17,7 +17,7 @@ use Rattle.rows.proofs.Keys.{Replaced, replace-side}
 use Rattle.meaning.specs.Sheet.{Sheet, room}
 use Rattle.meaning.specs.Plan.{kept, shown}
 use Rattle.meaning.specs.Meaning.{Model}
-use Rattle.meaning.specs.Store.{partRows, count, rowsAt}
+use Rattle.meaning.specs.Store.{partRows, rowsAt}
 use Rattle.meaning.specs.Change.{sideRow}
 use Rattle.laws.proofs.Columns.{key-pick}
 use Rattle.laws.proofs.Models.{part-side}
@@ -34,6 +34,7 @@ use Rattle.store.proofs.Lying.{count-is}
 use Rattle.store.proofs.Plans.{unmarked}
 use Rattle.sides.specs.Sides.{Begins, Modelled, hasRoom, Replaceable, Sided}
 use Rattle.sides.proofs.Parts.{side-lies, side-kept, side-rows, side-wrote, side-head}
+use Rattle.sides.proofs.Tests.{room-free}
 
 -- a table whose rows stay
 with-itself : (m : Model) (n t : ℕ) → length (m .sides) ≡ n → t < n → withPart m t (partRows m t) ≡ m
@@ -71,10 +72,9 @@ replace-there s ws t old new h k f found d = false→F (missing-row (pick (shown
 module _ (s : Sheet) (p : Plan) (plan : GoodPlan s p) (t : ℕ) (l : t < s .n) (k : T (kept s t)) (q : Part) (e : q ≡ partOf p t) (ws : Words) (m : Modelled s ws) where
   -- with room for one more row
   pub room-left : T (hasRoom s ws t) → countIn q ws < q .room
-  unfolding hasRoom
   room-left h =
       let lies = side-lies s p plan t l q e in
-      omega (arith, count-is s t q lies ws, lies .room-is, ltb→lt (count s ws t) (room s t) (rw (T→≡ (kept s t) k) at h))
+      omega (arith, count-is s t q lies ws, lies .room-is, room-free s ws t h k)
 
   module _ (row r : Row) (b : Begins s t r row) (after : Words) where
     pub put-kept : Wrote q (putRow (take (q .columns) row) (rowsIn q ws)) ws after → Sided s t (putRows (sideRow s t r)) ws after

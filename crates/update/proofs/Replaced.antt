@@ -1,7 +1,7 @@
 -- The list rows that an update replaces: which are marked, and that they are rewritten in place and settled.
 -- Assumes nothing.
 use Prim.Native.Nat.{ℕ, _<_, _≤_}
-use mathlib.Core.Path.{_≡_, refl, sym, ap, _∙_, subst}
+use mathlib.Core.Path.{_≡_, refl, sym, ap, _∙_}
 use mathlib.Core.Bool.{Bool, true, false, not, _||_}
 use mathlib.Core.Logic.{inl, inr, ⊎-elim}
 use native.Mathlib.Omega.{arith}
@@ -11,7 +11,6 @@ use Rattle.lists.specs.Lists.{Words, at, all}
 use Rattle.lists.specs.Parts.{splice}
 use Rattle.lists.proofs.Truth.{F→≡, or-inl, or-inr, or-cases, eq→eqb, eqb→≡}
 use Rattle.rows.specs.Rows.{Row, Rows, sameRow, sorted}
-use Rattle.rows.proofs.Cut.{cut-length}
 use Rattle.meaning.specs.Sheet.{Sheet, sheetOf}
 use Rattle.meaning.specs.Plan.{root, kept}
 use Rattle.meaning.specs.Meaning.{Model}
@@ -30,7 +29,8 @@ use Rattle.store.specs.declared.Part.{Part}
 use Rattle.store.specs.Parts.{stopOf, wordsIn, countIn, rowsIn, Kept, Wrote}
 use Rattle.store.proofs.Plans.{marked, unmarked}
 use Rattle.listpart.specs.Loose.{Loose, looseRows, Behind}
-use Rattle.listpart.proofs.Rewrites.{behind-loose, behind-rows, behind-wrote}
+use Rattle.listpart.proofs.Rewrites.{behind-loose, behind-settled}
+use Rattle.listpart.proofs.Lists.{rows-many}
 use Rattle.listpart.proofs.Altered.{behind-given}
 use Rattle.routes.specs.Ready.{Ready}
 use Rattle.written.proofs.Halves.{ready-good, ready-ground}
@@ -110,15 +110,13 @@ module _ (sheet : Words) (t : ℕ) (r : Row) (marks : Words) (p : Part) (old : W
   unfolding rows
   behind = behind-given sheet t r marks p old k few w mid e
 
-  many : length rows ≡ countIn p old
-  unfolding rows rowsIn
-  many = length-altered (isMarked marks) (gives sheet t r) (rowsIn p old) ∙ cut-length (p .columns) (countIn p old) (wordsIn p old)
+  many : countIn p old ≡ length rows
+  unfolding rows
+  many = sym (length-altered (isMarked marks) (gives sheet t r) (rowsIn p old) ∙ rows-many p old)
 
   pub given-loose : Loose p (countIn p old) mid
-  given-loose = subst (λ (n : ℕ). Loose p n mid) many (behind-loose p old (k .within) rows mid behind)
+  given-loose = behind-loose p old (k .within) rows mid behind (countIn p old) many
 
   pub given-settled : (exit : Words) → Wrote p (sorted (looseRows p (countIn p old) mid)) mid exit → Wrote p (sorted (altered (isMarked marks) (gives sheet t r) (rowsIn p old))) old exit
   unfolding rows
-  given-settled exit wr =
-      behind-wrote p old (k .within) rows mid behind (sorted rows) exit
-      (subst (λ (l : Rows). Wrote p (sorted l) mid exit) (ap (λ (n : ℕ). looseRows p n mid) (sym many) ∙ behind-rows p old (k .within) rows mid behind) wr)
+  given-settled = behind-settled p old (k .within) rows mid behind (countIn p old) many

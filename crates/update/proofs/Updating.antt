@@ -1,6 +1,6 @@
 -- An update on a ready store, answer by answer.
 -- Assumes nothing.
-use Prim.Native.Nat.{ℕ, _≤_}
+use Prim.Native.Nat.{ℕ}
 use mathlib.Core.Path.{_≡_, sym, _∙_, subst}
 use mathlib.Core.Bool.{Bool, true, false, not}
 use mathlib.Core.Logic.{⊎-elim}
@@ -27,9 +27,9 @@ use Rattle.ways.specs.declared.Route.{Route}
 use Rattle.ways.specs.Grounds.{Lent}
 use Rattle.store.specs.declared.Part.{Part}
 use Rattle.store.specs.declared.Answer.the-variants.{Done, Refused}
-use Rattle.store.specs.Parts.{rowsIn, countIn, Lies, Wrote}
+use Rattle.store.specs.Parts.{rowsIn, Lies, Wrote}
 use Rattle.store.proofs.Answers.{says-refused}
-use Rattle.store.proofs.Lying.{rows-is, count-is}
+use Rattle.store.proofs.Lying.{rows-is}
 use Rattle.sides.specs.Sides.{Replaceable, Sided}
 use Rattle.routes.specs.Ready.{Ready}
 use Rattle.written.proofs.Answers.{says-nothing, says-all}
@@ -37,10 +37,6 @@ use Rattle.written.proofs.Halves.{ready-good, ready-table, half-side, both-word
 use Rattle.taken.specs.declared.Taken.{Taken}
 use Rattle.taken.specs.declared.Taken.the-variants.{All, Contrary}
 use Rattle.update.specs.Updates.{ReplacedTaken, Updates}
-
-pub list-room : {ws store : Words} {plan : Plan} {p : Route} → Ready ws store plan p → (list : Part) → Lies (sheetOf ws) (sheetOf ws .n) list → countIn list store ≤ list .room
-list-room {ws} {store} rd list lies =
-    omega (arith, count-is (sheetOf ws) (sheetOf ws .n) list lies store, lies .room-is, sound-get (sheetOf ws) store (rd .sound) .within (sheetOf ws .n) (omega arith))
 
 module _ {ws store : Words} {plan : Plan} {p : Route} (rd : Ready ws store plan p) {t : ℕ} {r : Row} (lent : Lent ws t r) (r′ : Row)
     (q : Bool) (eq : q ≡ qualifies (sheetOf ws) (modelOf (sheetOf ws) store) t r) (b : Bool) (eb : b ≡ oldRow (sheetOf ws) (modelOf (sheetOf ws) store) t r) where

@@ -1,4 +1,5 @@
-use Rattle.taken.proofs.Lists.{marks-enough, list-kept}
+use Rattle.listpart.proofs.Lists.{list-kept}
+use Rattle.taken.proofs.Lists.{marks-enough}
 use mathlib.Core.Path.{refl}
 use Rattle.written.proofs.Halves.{ready-good, ready-ground, ready-list, ready-table, ready-tables, half-modelled}
 use Rattle.delete.proofs.Deleting.{deletes-8-side, deletes-none, deletes-8-list, deletes-done}

@@ -1,8 +1,9 @@
 use mathlib.Core.Path.{refl}
 use Rattle.written.proofs.Halves.{ready-good, ready-ground, ready-list, ready-table, ready-tables, half-modelled}
-use Rattle.taken.proofs.Lists.{list-columns, list-kept, marks-enough}
+use Rattle.listpart.proofs.Lists.{list-columns, list-kept, list-room}
+use Rattle.taken.proofs.Lists.{marks-enough}
 use Rattle.taken.proofs.Finding.{fits-lent}
-use Rattle.update.proofs.Updating.{list-room, updates-8-side, updates-none, updates-8-list, replaceable, updates-done}
+use Rattle.update.proofs.Updating.{updates-8-side, updates-none, updates-8-list, replaceable, updates-done}
 use borrow.Author.Needs.{needs}
 use Rattle.update.proofs.update.Statement.{statement}
 use Rattle.update.proofs.update.Tie as tie
@@ -73,7 +74,7 @@ slice-aggregate-replace-rows c = search needs
 
 -- src/lib.rt:109:5
 replace-rows-requires : tie.Need-replace-rows-requires
-replace-rows-requires c κs = let pre = c .before .before .before .before .before .before .before .before .before .before .before .before .before .before .before .before .before .before .before .before .pre in let lies = ready-list (pre .0) _ (c .before .before .before .before .before .before .before .before .before .part-of .ensures) in (ready-ground (pre .0) .rules, (fits-lent _ _ _ (pre .1 .1 .0), (list-kept _ (ready-good (pre .0)) _ (pre .0 .sound) _ lies, (list-room (pre .0) _ lies, (list-columns _ _ lies, marks-enough _ (ready-good (pre .0)) _ (pre .0 .sound) _ lies (c .before .before .before .before .before .before .mark-replaced .last .1 .1 .1 .1 .1 .1 .1 .0) (c .before .before .before .before .before .marks2 .given))))))
+replace-rows-requires c κs = let pre = c .before .before .before .before .before .before .before .before .before .before .before .before .before .before .before .before .before .before .before .before .pre in let lies = ready-list (pre .0) _ (c .before .before .before .before .before .before .before .before .before .part-of .ensures) in (ready-ground (pre .0) .rules, (fits-lent _ _ _ (pre .1 .1 .0), (list-kept _ (ready-good (pre .0)) _ (pre .0 .sound) _ lies, (list-room _ (ready-good (pre .0)) _ (pre .0 .sound) _ lies, (list-columns _ _ lies, marks-enough _ (ready-good (pre .0)) _ (pre .0 .sound) _ lies (c .before .before .before .before .before .before .mark-replaced .last .1 .1 .1 .1 .1 .1 .1 .0) (c .before .before .before .before .before .marks2 .given))))))
 
 -- src/lib.rt:110:5
 replace-side-requires : tie.Need-replace-side-requires
