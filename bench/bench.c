@@ -321,5 +321,11 @@ int main(void)
     store_length = many;
     fill = (call){.sheet = sheet, .sheet_length = length, .base_length = chain_tables()};
     bad |= measure("fill, chain, 8 x 65,535 rows", &fill, 5);
+    printf("-- the deepest sheet: eight tables in a chain\n");
+    memcpy(fresh, store, store_length * sizeof *store);
+    word last[] = {49, 56, 0}, altered[] = {49, 57, 0}, first[] = {0, 7, 0}, next[] = {1, 7, 0};
+    bad |= one_change("insert into the root", sheet, length, 1, 0, NULL, next, 3);
+    bad |= one_change("delete from the root", sheet, length, 2, 0, first, NULL, 3);
+    bad |= one_change("update the last", sheet, length, 3, 7, last, altered, 3);
     return bad;
 }
