@@ -42,20 +42,20 @@ with-at (x ∷ ls) t r [] j d e l = absurd (omega arith)
 with-at (x ∷ ls) t r (v ∷ row) zero d e l = refl
 with-at (x ∷ ls) t r (v ∷ row) (suc j) d e l = with-at ls t r row j d (omega arith) (le-of-suc-le-suc l)
 
-module _ (ws : Words) (t : ℕ) (r row : Row) (wide : length row ≡ at ws 3) where
-  listed-many : length (sheetOf ws .listed) ≡ at ws 3
-  listed-many = ap length (listed-are ws) ∙ length-upTo (listingNo ws) (at ws 3)
+pub listed-many : (ws : Words) → length (sheetOf ws .listed) ≡ at ws 3
+listed-many ws = ap length (listed-are ws) ∙ length-upTo (listingNo ws) (at ws 3)
 
+module _ (ws : Words) (t : ℕ) (r row : Row) (wide : length row ≡ at ws 3) where
   pub gives-length : length (gives ws t r row) ≡ at ws 3
   unfolding gives
-  gives-length = with-length (sheetOf ws .listed) t r row (wide ∙ sym listed-many) ∙ listed-many
+  gives-length = with-length (sheetOf ws .listed) t r row (wide ∙ sym (listed-many ws)) ∙ listed-many ws
 
   gives-at : (j : ℕ) → j < at ws 3 → at (gives ws t r row) j ≡ cond (eqb (listingNo ws j .table) t) (at r (listingNo ws j .column)) (at row j)
   unfolding gives
   gives-at j l =
       let d = listingNo ws j in
       let e : getD (sheetOf ws .listed) j d ≡ listingNo ws j = ap (λ (ls : List Listed). getD ls j d) (listed-are ws) ∙ at-upTo (listingNo ws) d (at ws 3) j l in
-      with-at (sheetOf ws .listed) t r row j d (wide ∙ sym listed-many) (omega (arith, listed-many)) ∙ rw e
+      with-at (sheetOf ws .listed) t r row j d (wide ∙ sym (listed-many ws)) (omega (arith, listed-many ws)) ∙ rw e
 
   gives-own : (j : ℕ) → j < at ws 3 → listingNo ws j .table ≡ t → at (gives ws t r row) j ≡ at r (listingNo ws j .column)
   gives-own j l e = gives-at j l ∙ rw (eq-eqb (listingNo ws j .table) t e)

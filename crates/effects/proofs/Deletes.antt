@@ -12,6 +12,7 @@ use Rattle.lists.proofs.Totals.{same-length}
 use Rattle.rows.specs.Rows.{Row, putRows, takeRows, hasRows}
 use Rattle.rows.specs.Marks.{unmarked}
 use Rattle.meaning.specs.Answers.{refused}
+use Rattle.rows.proofs.Takes.{has-same, takes-same}
 use Rattle.meaning.specs.Sheet.{Sheet}
 use Rattle.meaning.specs.Base.{rowsOf}
 use Rattle.meaning.specs.Store.{modelOf, sound, rowsAt}
@@ -19,7 +20,6 @@ use Rattle.meaning.specs.Change.{qualifies, rowsThrough, sideRow, deleteEffect,
 use Rattle.laws.proofs.Sheets.{Good}
 use Rattle.laws.proofs.Stores.{model-side}
 use Rattle.laws.proofs.Changes.{made}
-use Rattle.walks.proofs.Takes.{has-same, takes-same}
 use Rattle.effects.specs.Applied.{applied, done, nothing, walkRows, Marked}
 use Rattle.effects.proofs.Rooms.{length-takes-le, side-room, list-room}
 use Rattle.effects.proofs.Cases.{applied-8, applied-done, applied-nothing, done-same}

@@ -14,6 +14,7 @@ use Rattle.lists.proofs.Truth.{isT, decided}
 use Rattle.lists.proofs.Totals.{total-append, same-length}
 use Rattle.rows.specs.Rows.{Row, key, putRows, takeRows, sorted, hasRows, hasKey}
 use Rattle.meaning.specs.Answers.{refused}
+use Rattle.rows.proofs.Takes.{length-puts}
 use Rattle.meaning.specs.Sheet.{Sheet, room}
 use Rattle.meaning.specs.Plan.{kept, shown}
 use Rattle.meaning.specs.Store.{modelOf, sound, count, rowsAt}
@@ -21,9 +22,9 @@ use Rattle.meaning.specs.Change.{qualifies, rowsThrough, noEffect, sideRow, ins
 use Rattle.laws.proofs.Sheets.{Good}
 use Rattle.laws.proofs.Stores.{sound-get, model-side, rows-count}
 use Rattle.laws.proofs.Changes.{made, side-row-none, sideAfter}
-use Rattle.walks.proofs.Takes.{puts-sorted}
+use Rattle.walks.proofs.Marks.{puts-sorted}
 use Rattle.effects.specs.Applied.{applied, done, nothing, walkRows}
-use Rattle.effects.proofs.Rooms.{length-puts, listAfter}
+use Rattle.effects.proofs.Rooms.{listAfter}
 use Rattle.effects.proofs.Cases.{applied-8, applied-9, applied-done, applied-nothing, done-same}
 use Rattle.effects.proofs.Rows.{list-rising, walk-rows, side-row-one}
 

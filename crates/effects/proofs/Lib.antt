@@ -8,3 +8,4 @@ pub mod Updates
 pub mod Marking
 pub mod Kept
 pub mod Written
+pub mod Walks

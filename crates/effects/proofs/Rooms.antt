@@ -1,6 +1,6 @@
--- Refusal 9: after a change only its table's side table and the list can have outgrown their rooms, and their lengths after it are sums and differences.
+-- Refusal 9: after a change only its table's side table and the list can have outgrown their rooms.
 -- Assumes nothing.
-use Prim.Native.Nat.{ℕ, suc, _+_, _<_, _≤_}
+use Prim.Native.Nat.{ℕ, suc, _<_, _≤_}
 use mathlib.Core.Path.{_≡_, sym, _∙_}
 use mathlib.Core.Bool.{Bool, true, false, cond, _&&_}
 use mathlib.Core.List.{[], _∷_}
@@ -10,9 +10,7 @@ use lib.ListN.{length, length-set}
 use lib.Seq.{getD-set-same, getD-set-other}
 use Rattle.lists.specs.Lists.{Words}
 use Rattle.lists.proofs.Truth.{and-fst, and-snd, and-both, same-test}
-use Rattle.lists.proofs.Totals.{total-length}
-use Rattle.rows.specs.Rows.{Row, Rows, sameRow, putRows, takeRow, takeRows, hasRows}
-use Rattle.rows.proofs.Sorted.{total-puts, same-takes}
+use Rattle.rows.specs.Rows.{Row, Rows, sameRow, putRows, takeRow, takeRows}
 use Rattle.meaning.specs.Sheet.{Sheet, room}
 use Rattle.meaning.specs.Base.{rowsOf}
 use Rattle.meaning.specs.Meaning.{Model}
@@ -24,15 +22,7 @@ use Rattle.laws.proofs.Sheets.{Good}
 use Rattle.laws.proofs.Stores.{sound-get, model-side, rows-count}
 use Rattle.laws.proofs.Changes.{sideAfter}
 
--- rows put in add to the length, and rows that stand there as often take from it
-pub length-puts : (xs rows : Rows) → length (putRows xs rows) ≡ length xs + length rows
-length-puts xs rows =
-    omega (arith, total-length (putRows xs rows), total-puts (λ r. 1) xs rows, total-length xs, total-length rows)
-
-pub length-takes : (xs rows : Rows) → T (hasRows xs rows) → length rows ≡ length xs + length (takeRows xs rows)
-length-takes xs rows h =
-    omega (arith, total-length rows, same-takes xs rows h (λ r. 1), total-length xs, total-length (takeRows xs rows))
-
+-- rows taken out leave no more
 length-take-le : (r : Row) (rows : Rows) → length (takeRow r rows) ≤ length rows
 unfolding takeRow
 length-take-le r [] = omega arith

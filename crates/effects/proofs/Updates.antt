@@ -13,6 +13,7 @@ use Rattle.lists.proofs.Totals.{same-length}
 use Rattle.rows.specs.Rows.{Row, Rows, putRows, takeRows, sorted, hasRows}
 use Rattle.rows.specs.Marks.{unmarked}
 use Rattle.meaning.specs.Answers.{refused}
+use Rattle.rows.proofs.Takes.{has-same, takes-same, length-puts, length-takes}
 use Rattle.meaning.specs.Sheet.{Sheet, room}
 use Rattle.meaning.specs.Base.{rowsOf}
 use Rattle.meaning.specs.Store.{modelOf, sound, rowsAt}
@@ -21,11 +22,10 @@ use Rattle.laws.proofs.Sheets.{Good}
 use Rattle.laws.proofs.Stores.{model-side}
 use Rattle.laws.proofs.Changes.{made, sideAfter}
 use Rattle.walks.specs.Marks.{altered, isMarked}
-use Rattle.walks.proofs.Takes.{has-same, takes-same}
 use Rattle.walks.proofs.Marks.{puts-words}
 use Rattle.walks.proofs.Updates.{Tied, update-rows}
 use Rattle.effects.specs.Applied.{applied, done, nothing, walkRows, replacedRows, Marked}
-use Rattle.effects.proofs.Rooms.{length-puts, length-takes, listAfter, side-room, list-room}
+use Rattle.effects.proofs.Rooms.{listAfter, side-room, list-room}
 use Rattle.effects.proofs.Cases.{applied-8, applied-done, applied-nothing, done-same}
 use Rattle.effects.proofs.Rows.{list-rising, walk-rows, side-row-long, side-has}
 

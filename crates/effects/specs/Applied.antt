@@ -3,19 +3,20 @@
 use Prim.Native.Nat.{ℕ}
 use mathlib.Core.Path.{_≡_}
 use mathlib.Core.Bool.{cond}
-use mathlib.Core.List.{map}
+use mathlib.Core.List.{[], map}
 use lib.Dec.{T}
-use lib.ListN.{set}
+use lib.ListN.{getD, set}
 use Rattle.lists.specs.Lists.{Words}
 use Rattle.rows.specs.Rows.{Row, Rows, takeRows, hasRows}
 use Rattle.rows.specs.Marks.{unmarked}
 use Rattle.meaning.specs.Answers.{Outcome, refused}
 use Rattle.meaning.specs.Sheet.{Sheet}
-use Rattle.meaning.specs.Base.{Change}
+use Rattle.meaning.specs.Plan.{root}
+use Rattle.meaning.specs.Base.{Tables, Change, rowsOf}
 use Rattle.meaning.specs.Meaning.{listRow, Model}
 use Rattle.meaning.specs.Store.{storeOf, modelOf, fits}
 use Rattle.meaning.specs.Change.{canTake, rowsFound, agrees, modelAfter, accepted}
-use Rattle.walks.specs.Walk.{allWalks, withRow}
+use Rattle.walks.specs.Walk.{walkFrom, allWalks, firstWalks, withRow}
 
 -- tests 8 and 9, and the outcome of a change that passes them
 unfoldable pub applied : Sheet → Words → Change → Outcome
@@ -39,6 +40,13 @@ nothing store = record { number = 0; taken = 0; added = 0; words = store }
 -- the list rows of the walks through r, in the order in which they are walked
 unfoldable pub walkRows : Sheet → Model → ℕ → Row → Rows
 walkRows s m t r = map (listRow s) (allWalks s (withRow s m t r))
+
+-- the list rows of the walk from row i of the root, one or none, and of the walks from its first i rows
+unfoldable pub walkRow : Sheet → Tables → ℕ → Rows
+walkRow s base i = map (listRow s) (walkFrom s base (getD (rowsOf base (root s)) i []))
+
+unfoldable pub firstRows : Sheet → Tables → ℕ → Rows
+firstRows s base i = map (listRow s) (firstWalks s base i)
 
 -- the list rows that an update of r replaces: of the walks through r, or found by r's key
 unfoldable pub replacedRows : Sheet → Model → ℕ → Row → Rows

@@ -23,16 +23,15 @@ use Rattle.places.proofs.Stands.{stands-words}
 use Rattle.layout.specs.declared.Plan.{Plan}
 use Rattle.store.specs.declared.Answer.the-variants.{Done, Refused}
 use Rattle.store.specs.declared.Part.{Part}
-use Rattle.store.specs.Parts.{Lies}
 use Rattle.store.specs.Plans.{partOf}
 use Rattle.store.specs.Answers.{Says}
 use Rattle.store.proofs.Answers.{says-refused, says-done}
-use Rattle.store.proofs.Plans.{part-lies, tables-is}
 use Rattle.walks.specs.Walk.{Keyed}
 use Rattle.outward.specs.Orders.{Ordered}
 use Rattle.filling.specs.Written.{listFits}
 use Rattle.filling.proofs.Walks.{lawful-keyed}
 use Rattle.filling.proofs.Outcomes.{fill-9, fill-done, fits-is}
+use Rattle.store.proofs.Plans.{list-lies}
 use Rattle.base.specs.Bases.{tablesOf}
 use Rattle.base.proofs.Steps.{good-of}
 use Rattle.qualify.specs.Qualifying.{Based}
@@ -66,11 +65,6 @@ module _ {ws store run : Words} {plan : Plan} {starts numbers : List ℕ} (st : 
   ground order o =
       record { laid = te .laid; orders = te .orders; keyed = keyed; root-is = root-is; outward = o }
 
-  pub list-lies : (list : Part) → list ≡ partOf plan (plan .tables) → Lies (sheetOf ws) (sheetOf ws .n) list
-  list-lies list e =
-      let is : plan .tables ≡ sheetOf ws .n = tables-is (sheetOf ws) plan (st .planned) in
-      subst (Lies (sheetOf ws) (sheetOf ws .n)) (sym (e ∙ ap (partOf plan) is)) (part-lies (sheetOf ws) plan (st .planned) (sheetOf ws .n) (omega arith))
-
   -- Refusal 9
   fits-are : (b c : Bool) → every (fitsNo ws run) (at ws 0) ≡ b → listFits (sheetOf ws) (tablesOf ws run) ≡ c → fits (sheetOf ws) (meaning (sheetOf ws) (baseOf (sheetOf ws) run)) ≡ (b && c)
   unfolding tablesOf
@@ -85,7 +79,7 @@ module _ {ws store run : Words} {plan : Plan} {starts numbers : List ℕ} (st : 
   module _ (sides : every (fitsNo ws run) (at ws 0) ≡ true) (list : Part) (e : list ≡ partOf plan (plan .tables)) (added : ℕ)
       (counted : added ≡ length (theList (sheetOf ws) (tablesOf ws run))) where
     room-is : list .room ≡ room (sheetOf ws) (sheetOf ws .n)
-    room-is = list-lies list e .room-is
+    room-is = list-lies (sheetOf ws) plan (st .planned) list e .room-is
 
     pub list-refused : list .room < added → Says (fill ws store run) (Refused 9) store
     list-refused h = full (fits-are true false sides no)
@@ -103,7 +97,7 @@ module _ {ws store run : Words} {plan : Plan} {starts numbers : List ℕ} (st : 
       pub blank : (now : Words) → Stands (sheetOf ws) now (partlyOf ws run (at ws 0)) → Blank ws run list now
       blank now h =
           record {
-            lies = list-lies list e;
+            lies = list-lies (sheetOf ws) plan (st .planned) list e;
             stands = subst (Stands (sheetOf ws) now) (all-written ws run) h;
             fits = omega arith;
           }

@@ -1,6 +1,6 @@
 -- Zeros written over a run of words, one after the other.
 -- Assumes nothing.
-use Prim.Native.Nat.{ℕ, zero, suc, _≤_}
+use Prim.Native.Nat.{ℕ, _≤_}
 use mathlib.Core.Path.{_≡_, refl, sym, ap, _∙_}
 use native.Mathlib.Nat.{le-antisymm}
 use native.Mathlib.Omega.{arith}
@@ -9,22 +9,18 @@ use lib.Seq.{ext-getD}
 use Rattle.lists.specs.Lists.{Words, at}
 use Rattle.lists.specs.Loops.{filled}
 use Rattle.lists.proofs.Loops.{length-filled, getD-filled}
+use Rattle.walks.proofs.Lists.{zeros-at}
 
 -- what is written at place k
 unfoldable pub nought : ℕ → ℕ
 nought k = 0
-
-nothing : (k i : ℕ) → at (replicate k 0) i ≡ 0
-nothing zero i = refl
-nothing (suc k) zero = refl
-nothing (suc k) (suc i) = nothing k i
 
 pub all-nought : (k : ℕ) (old now : Words) → k ≤ length old → length old ≤ k → now ≡ filled nought k old → now ≡ replicate (length old) 0
 unfolding nought
 all-nought k old now h l e =
     e ∙ ap (λ (n : ℕ). filled nought n old) (le-antisymm h l)
     ∙ ext-getD 0 (filled nought (length old) old) (replicate (length old) 0) (length-filled nought (length old) old ∙ sym (length-replicate (length old) 0))
-    (λ i b. getD-filled nought (length old) i 0 old (omega (arith, length-filled nought (length old) old)) (omega arith) ∙ sym (nothing (length old) i))
+    (λ i b. getD-filled nought (length old) i 0 old (omega (arith, length-filled nought (length old) old)) (omega arith) ∙ sym (zeros-at (length old) i))
 
 pub nought-is : (k : ℕ) → 0 ≡ nought k
 unfolding nought

@@ -4,6 +4,5 @@ pub mod Qualifies
 pub mod Sides
 pub mod Walks
 pub mod Ways
-pub mod Laid
 pub mod Models
 pub mod Outcomes

@@ -1,6 +1,6 @@
 -- The store as fill makes it: zeros stand for a model with no rows; with each side table written it stands for one more, and with the list for the meaning.
 -- Assumes nothing.
-use Prim.Native.Nat.{ℕ, zero, suc, _+_, _*_, _<_, _≤_}
+use Prim.Native.Nat.{ℕ, _+_, _*_, _<_, _≤_}
 use mathlib.Core.Path.{_≡_, refl, sym, ap, _∙_, subst}
 use mathlib.Core.Bool.{cond}
 use mathlib.Core.List.{[], map}
@@ -27,6 +27,7 @@ use Rattle.laws.proofs.Models.{by-part}
 use Rattle.laws.proofs.Qualified.{side-unkept}
 use Rattle.places.specs.Stands.{slot, Stands, withPart}
 use Rattle.places.proofs.Models.{with-side, with-list}
+use Rattle.walks.proofs.Lists.{zeros-at}
 use Rattle.filling.specs.Written.{partly}
 
 module _ (s : Sheet) (base : Tables) where
@@ -46,12 +47,7 @@ module _ (s : Sheet) (base : Tables) where
   -- Zeros
   module _ (g : Good s) (ws : Words) (long : length ws ≡ storeLength s) (zeros : ws ≡ replicate (length ws) 0) where
     at-zero : (i : ℕ) → at ws i ≡ 0
-    at-zero i = ap (λ (ws : Words). at ws i) zeros ∙ nothing (length ws) i
-      where
-        nothing : (k i : ℕ) → at (replicate k 0) i ≡ 0
-        nothing zero i = refl
-        nothing (suc k) zero = refl
-        nothing (suc k) (suc i) = nothing k i
+    at-zero i = ap (λ (ws : Words). at ws i) zeros ∙ zeros-at (length ws) i
 
     all-zero : T (all (eqb 0) ws)
     all-zero = subst (λ (ws : Words). T (all (eqb 0) ws)) (sym zeros) (all-zeros (length ws))

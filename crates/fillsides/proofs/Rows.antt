@@ -27,7 +27,7 @@ use Rattle.laws.proofs.Qualified.{side-kept}
 use Rattle.words.proofs.Words.{n-is}
 use Rattle.filling.specs.Runs.{rowNo}
 use Rattle.filling.specs.Qualifies.{passing, numbered, sideRows}
-use Rattle.filling.proofs.Laid.{laid-none, laid-more}
+use Rattle.places.proofs.Laid.{laid-none, laid-more}
 use Rattle.filling.proofs.Sides.{side-none, side-hit, side-miss, side-all}
 use Rattle.base.specs.Bases.{tablesOf, numbersOf, Laid}
 use Rattle.base.proofs.Steps.{good-of}

@@ -35,7 +35,7 @@ use Rattle.store.specs.Plans.{GoodPlan, partOf}
 use Rattle.store.proofs.Lying.{stop-is, words-is, lies-within}
 use Rattle.store.proofs.Plans.{part-lies}
 use Rattle.filling.specs.Written.{partly, sideFits}
-use Rattle.filling.proofs.Laid.{laid-none, laid-holds}
+use Rattle.places.proofs.Laid.{laid-none, laid-holds}
 use Rattle.filling.proofs.Models.{partly-many, partly-next, partly-unkept}
 use Rattle.base.specs.Bases.{tablesOf}
 use Rattle.qualify.specs.Qualifying.{Based}
@@ -62,7 +62,7 @@ module _ {ws run : Words} {starts order : List ℕ} (b : Based ws run starts ord
 
   module _ {q : Part} (e : q ≡ partOf p t) where
     lies : Lies (sheetOf ws) t q
-    lies = subst (λ (q : Part). Lies (sheetOf ws) t q) (sym e) (part-lies (sheetOf ws) p plan t within-n)
+    lies = part-lies (sheetOf ws) p plan t within-n q e
 
     pub part-within : Within q store
     part-within = lies-within (sheetOf ws) t q lies (plan .good) store (st .long)

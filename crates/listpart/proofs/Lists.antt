@@ -15,14 +15,12 @@ use Rattle.rows.proofs.Cut.{cut-length}
 use Rattle.meaning.specs.Sheet.{Sheet, sheetOf}
 use Rattle.meaning.specs.Meaning.{Way, listRow}
 use Rattle.meaning.specs.Store.{modelOf, sound}
-use Rattle.laws.proofs.Lists.{length-upTo}
 use Rattle.laws.proofs.Columns.{columns-list, list-row-length}
 use Rattle.laws.proofs.Sheets.{Good}
 use Rattle.laws.proofs.Stores.{sound-get}
-use Rattle.words.specs.Numbered.{listingNo}
 use Rattle.words.specs.Rules.{Rules}
-use Rattle.words.proofs.Words.{listed-are}
 use Rattle.places.proofs.Stands.{sound-stands}
+use Rattle.columns.proofs.Words.{listed-many}
 use Rattle.store.specs.declared.Part.{Part}
 use Rattle.store.specs.Parts.{stopOf, wordsIn, countIn, rowsIn, Lies, Kept}
 use Rattle.store.proofs.Lying.{count-is, lies-kept}
@@ -33,9 +31,6 @@ unfolding rowsIn
 rows-many p ws = cut-length (p .columns) (countIn p ws) (wordsIn p ws)
 
 -- the list's are as wide as the sheet says
-listed-many : (ws : Words) → length (sheetOf ws .listed) ≡ at ws 3
-listed-many ws = ap length (listed-are ws) ∙ length-upTo (listingNo ws) (at ws 3)
-
 pub row-listed : (ws : Words) (way : Way) → length (listRow (sheetOf ws) way) ≡ at ws 3
 row-listed ws way = list-row-length (sheetOf ws) way ∙ listed-many ws
 

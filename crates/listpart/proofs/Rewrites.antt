@@ -1,35 +1,28 @@
 -- The words of a part written anew, in any order: what is read then, and what a function that settles them leaves.
 -- Assumes nothing.
-use Prim.Native.Nat.{ℕ, zero, suc, _+_, _-_, _*_, _<_, _≤_}
+use Prim.Native.Nat.{ℕ, _+_, _-_, _*_, _<_, _≤_}
 use mathlib.Core.Path.{_≡_, refl, sym, ap, ap₂, _∙_, subst}
 use mathlib.Core.List.{[], _∷_, _++_}
 use native.Mathlib.Nat.{mul-le-mul-right}
 use native.Mathlib.Omega.{arith}
 use lib.Dec.{T, eqb}
-use lib.ListN.{length, take, drop, set, replicate, length-append, length-replicate, take-append-drop}
-use lib.Seq.{take-at, drop-at, take-all, drop-drop}
+use lib.ListN.{length, take, drop, set, length-append, take-append-drop}
+use lib.Seq.{drop-drop}
 use borrow.Rule.Slice.PartMut.{putMid}
-use Rattle.lists.specs.Lists.{Words, all, flat}
+use Rattle.lists.specs.Lists.{Words, all}
 use Rattle.lists.specs.Parts.{part, splice}
 use Rattle.lists.proofs.Parts.{put-back, length-part, drop-splice}
 use Rattle.rows.specs.Rows.{Row, Rows, cut, rising, sorted}
 use Rattle.rows.specs.Words.{written}
 use Rattle.rows.specs.Regions.{laid, Holds}
-use Rattle.rows.proofs.Cut.{row-fits, Wide, wide-first, wide-rest, wide-cons, length-flat, cut-flat, cut-length, wide-cut}
-use Rattle.rows.proofs.Regions.{all-zeros, region-words, holds, holds-count}
+use Rattle.rows.proofs.Cut.{row-fits, Wide, wide-first, wide-rest, wide-cons, cut-length, wide-cut}
+use Rattle.rows.proofs.Regions.{region-words, holds, holds-count}
 use Rattle.rows.proofs.Sorted.{rising-sorted}
-use Rattle.rows.proofs.Marks.{flat-append}
+use Rattle.places.proofs.Laid.{laid-long, laid-more, laid-zeros, laid-cut}
 use Rattle.places.proofs.Splices.{length-splice, part-splice, take-splice}
 use Rattle.store.specs.declared.Part.{Part}
 use Rattle.store.specs.Parts.{sizeOf, stopOf, wordsIn, countIn, rowsIn, Within, Kept, withRows, Wrote}
 use Rattle.listpart.specs.Loose.{Loose, looseRows, Behind}
-
--- rows laid end to end, as long as the part
-pub laid-long : (w k : ℕ) (rows : Rows) → Wide w rows → length rows * w ≤ k → length (laid k rows) ≡ k
-unfolding laid
-laid-long w k rows wide h =
-    length-append (flat rows) (replicate (k - length (flat rows)) 0)
-    ∙ omega (arith, length-replicate {A = ℕ} (k - length (flat rows)) 0, length-flat w rows wide)
 
 -- a part put in twice, and one put in where it was
 spliced-as : (s : Words) (a b : ℕ) (y : Words) → splice s a b y ≡ take a s ++ (y ++ drop b s)
@@ -51,15 +44,6 @@ splice-same s a b h =
 part-same : (p : Part) (old : Words) → splice old (p .start) (stopOf p) (wordsIn p old) ≡ old
 unfolding wordsIn
 part-same p old = splice-same old (p .start) (stopOf p) (omega arith)
-
-drop-zeros : (k z : ℕ) → drop {A = ℕ} k (replicate z 0) ≡ replicate (z - k) 0
-drop-zeros zero z = let e : z - 0 ≡ z = omega arith in rw e
-drop-zeros (suc k) zero = let e : 0 - suc k ≡ 0 = omega arith in rw e
-drop-zeros (suc k) (suc z) = let e : suc z - suc k ≡ z - k = omega arith in rw e (drop-zeros k z)
-
-append-nil : (xs : Words) → xs ++ [] ≡ xs
-append-nil [] = refl
-append-nil (x ∷ xs) = ap (λ (l : Words). x ∷ l) (append-nil xs)
 
 wide-append : (w : ℕ) (rows : Rows) (r : Row) → Wide w rows → length r ≡ w → Wide w (rows ++ (r ∷ []))
 wide-append w [] r h e = wide-cons w r [] e tt
@@ -123,9 +107,6 @@ module _ (p : Part) (old : Words) (win : Within p old) (rows : Rows) (ws : Words
   long : length (laid (sizeOf p) rows) ≡ sizeOf p
   long = laid-long (p .columns) (sizeOf p) rows (be .wide) (mul-le-mul-right (p .columns) (be .fits))
 
-  flat-long : length (flat rows) ≡ length rows * p .columns
-  flat-long = length-flat (p .columns) rows (be .wide)
-
   pub behind-within : Within p ws
   behind-within = subst (Within p) (sym (be .words)) (within-anew p old win (laid (sizeOf p) rows) long)
 
@@ -133,16 +114,15 @@ module _ (p : Part) (old : Words) (win : Within p old) (rows : Rows) (ws : Words
   words-are = ap (wordsIn p) (be .words) ∙ words-anew p old win (laid (sizeOf p) rows) long
 
   rows-are : looseRows p (length rows) ws ≡ rows
-  unfolding looseRows laid
-  rows-are = ap (cut (p .columns) (length rows)) words-are ∙ cut-flat (p .columns) rows (replicate (sizeOf p - length (flat rows)) 0) (be .wide)
+  unfolding looseRows
+  rows-are = ap (cut (p .columns) (length rows)) words-are ∙ laid-cut (p .columns) (sizeOf p) rows (be .wide)
 
   loose : Loose p (length rows) ws
-  unfolding laid
   loose =
       record {
         within = behind-within;
         fits = be .fits;
-        zeros = subst (λ (l : Words). T (all (eqb 0) l)) (sym (ap (drop (length rows * p .columns)) words-are ∙ drop-at (flat rows) (replicate (sizeOf p - length (flat rows)) 0) (length rows * p .columns) flat-long)) (all-zeros (sizeOf p - length (flat rows)));
+        zeros = subst (λ (l : Words). T (all (eqb 0) (drop (length rows * p .columns) l))) (sym words-are) (laid-zeros (p .columns) (sizeOf p) rows (be .wide));
       }
 
   -- counted, they can be settled, and are then written into the old store
@@ -159,18 +139,7 @@ module _ (p : Part) (old : Words) (win : Within p old) (rows : Rows) (ws : Words
   -- one row more
   module _ (r : Row) (wide : length r ≡ p .columns) (l : length rows < p .room) where
     at-end : written (laid (sizeOf p) rows) (length rows * p .columns) r (p .columns) ≡ laid (sizeOf p) (rows ++ (r ∷ []))
-    unfolding written laid
-    at-end =
-        let w = p .columns in
-        let n = length rows * w in
-        let size : n + w ≤ sizeOf p = row-fits w (p .room) (length rows) (sizeOf p) l (omega arith) in
-        let z = sizeOf p - length (flat rows) in
-        let tk : take n (flat rows ++ replicate z 0) ≡ flat rows = take-at (flat rows) (replicate z 0) n flat-long in
-        let dr : drop (n + w) (flat rows ++ replicate z 0) ≡ replicate (z - w) 0 =
-        sym (drop-drop w n (flat rows ++ replicate z 0)) ∙ ap (drop w) (drop-at (flat rows) (replicate z 0) n flat-long) ∙ drop-zeros w z in
-        let fl : flat (rows ++ (r ∷ [])) ≡ flat rows ++ r = flat-append rows (r ∷ []) ∙ ap (λ (l : Words). flat rows ++ l) (append-nil r) in
-        let sz : sizeOf p - length (flat rows ++ r) ≡ z - w = omega (arith, length-append (flat rows) r) in
-        rw (tk, dr, take-all w r (omega arith), fl, sz)
+    at-end = laid-more (p .columns) (sizeOf p) rows (be .wide) r wide (row-fits (p .columns) (p .room) (length rows) (sizeOf p) l (omega arith))
 
     pub behind-on : (exit : Words) → exit ≡ splice ws (p .start) (stopOf p) (written (wordsIn p ws) (length rows * p .columns) r (p .columns)) → Behind p old (rows ++ (r ∷ [])) exit
     behind-on exit e =

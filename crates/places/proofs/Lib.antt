@@ -3,3 +3,4 @@ pub mod Parts
 pub mod Models
 pub mod Stands
 pub mod Writes
+pub mod Laid

@@ -23,7 +23,7 @@ use Rattle.sides.specs.Sides.{Begins, Modelled, Sided}
 
 module _ (s : Sheet) (p : Plan) (plan : GoodPlan s p) (t : ℕ) (l : t < s .n) (q : Part) (e : q ≡ partOf p t) where
   pub side-lies : Lies s t q
-  side-lies = subst (Lies s t) (sym e) (part-lies s p plan t (omega arith))
+  side-lies = part-lies s p plan t (omega arith) q e
 
   -- a kept table's rows have a column for each that is shown, at most eight
   pub side-columns : T (kept s t) → q .columns ≡ length (shown s t)

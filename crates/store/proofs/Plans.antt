@@ -1,7 +1,7 @@
 -- The plan of a good sheet holds what the definitions say, part by part.
 -- Assumes nothing.
 use Prim.Native.Nat.{ℕ, _+_, _<_, _≤_}
-use mathlib.Core.Path.{_≡_, sym, ap, _∙_, subst}
+use mathlib.Core.Path.{_≡_, refl, sym, ap, _∙_, subst}
 use mathlib.Core.Bool.{cond}
 use mathlib.Core.Logic.{⊎-elim}
 use native.Mathlib.Omega.{arith}
@@ -32,23 +32,28 @@ module _ (s : Sheet) (p : Plan) (plan : GoodPlan s p) where
   pub unmarked : (t : ℕ) → t < s .n → getD (p .kept) t 0 ≡ 0 → T (kept s t) → ⊥
   unmarked t l e k = let one-is : getD (p .kept) t 0 ≡ 1 = plan .planned .kept-at t l ∙ cond-true (kept s t) 1 0 k in omega arith
 
-  pub part-lies : (number : ℕ) → number ≤ s .n → Lies s number (partOf p number)
+  -- the parts lie where it says
+  pub part-lies : (number : ℕ) → number ≤ s .n → (q : Part) → q ≡ partOf p number → Lies s number q
   unfolding partOf
-  part-lies number l =
-      record {
+  part-lies number l q e =
+      subst (Lies s number) (sym e)
+      (record {
         number-in = l;
         slot-is = ap (λ (n : ℕ). cond (ltb number n) number 8) tables-is;
         start-is = plan .planned .starts-at number l;
         columns-is = plan .planned .columns-at number l;
         room-is = plan .planned .rooms-at number l;
-      }
+      })
+
+  pub list-lies : (q : Part) → q ≡ partOf p (p .tables) → Lies s (s .n) q
+  list-lies q e = part-lies (s .n) (omega arith) q (e ∙ ap (partOf p) tables-is)
 
   -- a kept table has columns
   pub kept-columns : (t : ℕ) → t < s .n → T (kept s t) → 0 < partOf p t .columns
   unfolding partOf
   kept-columns t l k =
       let e = shown-first s (plan .good) t l in
-      omega (arith, part-lies t (omega arith) .columns-is, columns-side s t l k, ap length (e .1))
+      omega (arith, part-lies t (omega arith) (partOf p t) refl .columns-is, columns-side s t l k, ap length (e .1))
 
 -- What the code needs to know to be safe
 module _ (p : Plan) (of : OfSheet p) where
@@ -61,9 +66,8 @@ module _ (p : Plan) (of : OfSheet p) where
 
   pub within-store : (number : ℕ) (q : Part) (ws : Words) → number ≤ p .tables → q ≡ partOf p number → length ws ≡ p .store → Within q ws
   within-store number q ws l e long =
-      subst (λ (q : Part). Within q ws) (sym e)
-      (lies-within (of .sheet) number (partOf p number) (part-lies (of .sheet) p (of .is) number (omega (arith, tables-is (of .sheet) p (of .is))))
-      (of .is .good) ws (long ∙ store-is (of .sheet) p (of .is)))
+      let s = of .sheet in
+      lies-within s number q (part-lies s p (of .is) number (omega (arith, tables-is s p (of .is))) q e) (of .is .good) ws (long ∙ store-is s p (of .is))
 
   pub has-columns : (t : ℕ) (q : Part) → t < p .tables → (getD (p .kept) t 0 ≡ 0 → ⊥) → q ≡ partOf p t → 0 < q .columns
   has-columns t q l d e =

@@ -76,7 +76,7 @@ module _ (sheet store : Words) (number : ℕ) (c : Checked) (e : c ≡ checkedOf
 
         module _ (t : b ≡ true) (q : Part) (p : q ≡ partOf (c .plan) number) where
           lies : Lies (sheetOf sheet) number q
-          lies = subst (Lies (sheetOf sheet) number) (sym p) (part-lies (sheetOf sheet) (c .plan) plan number inside)
+          lies = part-lies (sheetOf sheet) (c .plan) plan number inside q p
 
           pub show-kept : Kept q store
           show-kept =

@@ -1,7 +1,7 @@
 -- A store's tests by the plan: what the code finds of a part is what the definition says of it, for the sheet of which it is the plan.
 -- Assumes nothing.
 use Prim.Native.Nat.{ℕ, _+_, _<_, _≤_}
-use mathlib.Core.Path.{_≡_, refl, sym, ap, _∙_, subst}
+use mathlib.Core.Path.{_≡_, refl, sym, ap, _∙_}
 use mathlib.Core.Bool.{Bool, true, false}
 use native.Mathlib.Omega.{arith}
 use lib.Dec.{eqb}
@@ -13,11 +13,11 @@ use Rattle.layout.specs.declared.Plan.{Plan}
 use Rattle.places.proofs.Parts.{slot-table, slot-list}
 use Rattle.store.specs.declared.Part.{Part}
 use Rattle.store.specs.Tests.{absentZero, tableSound}
-use Rattle.store.specs.Parts.{soundIn, Lies}
+use Rattle.store.specs.Parts.{soundIn}
 use Rattle.store.specs.Plans.{partOf, TableIs, SidesTo, SidesIs, SoundIs}
 use Rattle.store.proofs.Tests.{table-kept, table-unkept, list-part, sound-length, sound-absent, sound-sides, sound-list}
 use Rattle.store.proofs.Lying.{words-is, count-is}
-use Rattle.store.proofs.Plans.{tables-is, store-is, marked, unmarked, part-lies}
+use Rattle.store.proofs.Plans.{tables-is, store-is, marked, unmarked, part-lies, list-lies}
 
 module _ (p : Plan) (ws : Words) where
   pub unkept-is : (t : ℕ) → t < p .tables → getD (p .kept) t 0 ≡ 0 → TableIs p ws t (eqb (at ws t) 0)
@@ -31,7 +31,7 @@ module _ (p : Plan) (ws : Words) where
       record {
         is = λ s plan.
             let i : t < s .n = omega (arith, tables-is s p plan) in
-            let lies = subst (Lies s t) (sym e) (part-lies s p plan t (omega arith)) in
+            let lies = part-lies s p plan t (omega arith) q e in
             f ∙ rw (words-is s t q lies ws, count-is s t q lies ws, lies .columns-is, lies .room-is, slot-table s t i) (sym (table-kept s ws t i (marked s p plan t i d)));
       }
 
@@ -73,7 +73,7 @@ module _ (p : Plan) (ws : Words) where
       record {
         is = λ s plan.
             let n = tables-is s p plan in
-            let lies = subst (Lies s (s .n)) (sym (f ∙ ap (partOf p) n)) (part-lies s p plan (s .n) (omega arith)) in
+            let lies = list-lies s p plan q f in
             h
             ∙ rw (words-is s (s .n) q lies ws, count-is s (s .n) q lies ws, lies .columns-is, lies .room-is, slot-list s) (sym (list-part s ws))
             ∙ sound-list s ws (long ∙ store-is s p plan) (ap (λ (n : ℕ). absentZero n ws) (sym n) ∙ absent) (sym (sides .is s plan) ∙ e);

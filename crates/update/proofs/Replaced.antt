@@ -1,10 +1,9 @@
 -- The list rows that an update replaces: which are marked, and that they are rewritten in place and settled.
 -- Assumes nothing.
-use Prim.Native.Nat.{ℕ, _<_, _≤_}
+use Prim.Native.Nat.{ℕ, _≤_}
 use mathlib.Core.Path.{_≡_, refl, sym, ap, _∙_}
 use mathlib.Core.Bool.{Bool, true, false, not, _||_}
 use mathlib.Core.Logic.{inl, inr, ⊎-elim}
-use native.Mathlib.Omega.{arith}
 use lib.Dec.{T, eqb}
 use lib.ListN.{length, getD}
 use Rattle.lists.specs.Lists.{Words, at, all}
@@ -24,7 +23,6 @@ use Rattle.layout.specs.declared.Plan.{Plan}
 use Rattle.columns.specs.Gives.{gives, given}
 use Rattle.ways.specs.declared.Route.{Route}
 use Rattle.ways.specs.Climbing.{ByKey}
-use Rattle.ways.proofs.Grounds.{root-table, eight}
 use Rattle.store.specs.declared.Part.{Part}
 use Rattle.store.specs.Parts.{stopOf, wordsIn, countIn, rowsIn, Kept, Wrote}
 use Rattle.store.proofs.Plans.{marked, unmarked}
@@ -33,7 +31,7 @@ use Rattle.listpart.proofs.Rewrites.{behind-loose, behind-settled}
 use Rattle.listpart.proofs.Lists.{rows-many}
 use Rattle.listpart.proofs.Altered.{behind-given}
 use Rattle.routes.specs.Ready.{Ready}
-use Rattle.written.proofs.Halves.{ready-good, ready-ground}
+use Rattle.written.proofs.Halves.{ready-good}
 use Rattle.taken.specs.declared.Taken.{Taken}
 use Rattle.taken.specs.declared.Taken.the-variants.{All, Contrary}
 use Rattle.taken.specs.Taking.{WaysTaken, FoundTaken}
@@ -56,9 +54,6 @@ module _ (s : Sheet) (m : Model) (t : ℕ) (r : Row) (no-way : T (canTake s t) �
   shows-no : all (λ row. sameRow row (withColumns (s .listed) t r row)) (rowsFound s m t r) ≡ false → qualifies s m t r ≡ true → foundShow s m t r ≡ false
   unfolding foundShow
   shows-no e q = rw (F→≡ (canTake s t) no-way, q, e)
-
-pub root-in : {ws store : Words} {plan : Plan} {p : Route} → Ready ws store plan p → p .root < 8
-root-in rd = let g = ready-ground rd in omega (arith, root-table g, eight g)
 
 module _ {ws store : Words} {plan : Plan} {p : Route} (rd : Ready ws store plan p) (t : ℕ) (r : Row) (marks : Words) where
   by-ways : T (canTake (sheetOf ws) t) → (a : Taken) → WaysTaken ws store t r marks a → ReplacedTaken ws store t r marks a

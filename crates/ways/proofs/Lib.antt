@@ -6,3 +6,4 @@ pub mod Entries
 pub mod Tests
 pub mod Climbing
 pub mod Laddering
+pub mod Trails

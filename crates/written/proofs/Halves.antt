@@ -1,7 +1,7 @@
 -- A ready store, and what stands in it when its list's part is written and its changed table's is not yet, and when both are.
 -- Assumes nothing.
 use Prim.Native.Nat.{ℕ, _<_, _≤_}
-use mathlib.Core.Path.{_≡_, sym, ap, _∙_, subst}
+use mathlib.Core.Path.{_≡_, _∙_, subst}
 use native.Mathlib.Omega.{arith}
 use Rattle.lists.specs.Lists.{Words}
 use Rattle.rows.specs.Rows.{Row, Rows}
@@ -23,7 +23,7 @@ use Rattle.store.specs.declared.Part.{Part}
 use Rattle.store.specs.Parts.{Lies, Wrote}
 use Rattle.store.specs.Plans.{partOf}
 use Rattle.store.proofs.Lying.{wrote-stands}
-use Rattle.store.proofs.Plans.{part-lies}
+use Rattle.store.proofs.Plans.{list-lies}
 use Rattle.sides.specs.Sides.{Modelled, Sided}
 use Rattle.routes.specs.Ready.{Ready}
 
@@ -38,9 +38,7 @@ module _ {ws store : Words} {plan : Plan} {p : Route} (rd : Ready ws store plan 
   ready-tables = (rd .planned .planned .tables-few, omega arith)
 
   pub ready-list : (list : Part) → list ≡ partOf plan (plan .tables) → Lies (sheetOf ws) (sheetOf ws .n) list
-  ready-list list e =
-      subst (Lies (sheetOf ws) (sheetOf ws .n)) (sym (e ∙ ap (partOf plan) (rd .planned .planned .tables-are)))
-      (part-lies (sheetOf ws) plan (rd .planned) (sheetOf ws .n) (omega arith))
+  ready-list = list-lies (sheetOf ws) plan (rd .planned)
 
   pub ready-stands : Stands (sheetOf ws) store (modelOf (sheetOf ws) store)
   ready-stands = sound-stands (sheetOf ws) ready-good store (rd .sound)

@@ -1,4 +1,4 @@
--- Rows written one behind the other into a run of zeros, and what a sort makes of them.
+-- Rows laid end to end in a run, and zeros after them: one row written behind them, and the rows read back.
 -- Assumes nothing.
 use Prim.Native.Nat.{ℕ, zero, suc, _+_, _-_, _*_, _≤_}
 use mathlib.Core.Path.{_≡_, sym, ap, _∙_, subst}
@@ -9,11 +9,10 @@ use lib.ListN.{length, take, drop, replicate, length-append, length-replicate}
 use lib.Seq.{take-at, drop-at, drop-drop, take-all}
 use Rattle.lists.specs.Lists.{Words, all, flat}
 use Rattle.lists.proofs.Places.{append-assoc}
-use Rattle.rows.specs.Rows.{Row, Rows, cut, rising, sorted}
+use Rattle.rows.specs.Rows.{Row, Rows, cut, rising}
 use Rattle.rows.specs.Words.{written}
 use Rattle.rows.specs.Regions.{laid, Holds}
-use Rattle.rows.proofs.Cut.{Wide, wide-cons, wide-first, wide-rest, length-flat, cut-flat}
-use Rattle.rows.proofs.Sorted.{rising-sorted}
+use Rattle.rows.proofs.Cut.{Wide, length-flat, cut-flat}
 use Rattle.rows.proofs.Regions.{holds, all-zeros}
 
 pub laid-none : (size : ℕ) → replicate size 0 ≡ laid size []
@@ -25,13 +24,9 @@ drop-zeros zero k = let e : k - 0 ≡ k = omega arith in rw e
 drop-zeros (suc j) zero = let e : 0 - suc j ≡ 0 = omega arith in rw e
 drop-zeros (suc j) (suc k) = let e : suc k - suc j ≡ k - j = omega arith in rw e (drop-zeros j k)
 
-pub flat-one : (rows : Rows) (r : Row) → flat (rows ++ (r ∷ [])) ≡ flat rows ++ r
+flat-one : (rows : Rows) (r : Row) → flat (rows ++ (r ∷ [])) ≡ flat rows ++ r
 flat-one [] r = append-nil r
 flat-one (q ∷ rows) r = ap (λ (l : Words). q ++ l) (flat-one rows r) ∙ sym (append-assoc q (flat rows) r)
-
-pub wide-one : (w : ℕ) (rows : Rows) (r : Row) → Wide w rows → length r ≡ w → Wide w (rows ++ (r ∷ []))
-wide-one w [] r h e = wide-cons w r [] e tt
-wide-one w (q ∷ rows) r h e = wide-cons w q (rows ++ (r ∷ [])) (wide-first w q rows h) (wide-one w rows r (wide-rest w q rows h) e)
 
 -- Rows of w columns that have room
 module _ (w size : ℕ) (rows : Rows) (wide : Wide w rows) where
@@ -55,9 +50,11 @@ module _ (w size : ℕ) (rows : Rows) (wide : Wide w rows) where
       ∙ drop-zeros w (size - length (flat rows)) in
       rw (front, back, take-all w r (omega arith), flat-one rows r, left)
 
-  rest : length rows * w ≤ size → drop (length rows * w) (laid size rows) ≡ replicate (size - length (flat rows)) 0
+  pub laid-zeros : T (all (eqb 0) (drop (length rows * w) (laid size rows)))
   unfolding laid
-  rest h = drop-at (flat rows) (replicate (size - length (flat rows)) 0) (length rows * w) long
+  laid-zeros =
+      let z = size - length (flat rows) in
+      subst (λ (ws : Words). T (all (eqb 0) ws)) (sym (drop-at (flat rows) (replicate z 0) (length rows * w) long)) (all-zeros z)
 
   pub laid-cut : cut w (length rows) (laid size rows) ≡ rows
   unfolding laid
@@ -70,17 +67,5 @@ module _ (w size : ℕ) (rows : Rows) (wide : Wide w rows) where
       (record {
         fits = omega (arith, laid-long h);
         up = subst (λ (rows : Rows). T (rising rows)) (sym laid-cut) u;
-        zeros = subst (λ (ws : Words). T (all (eqb 0) ws)) (sym (rest h)) (all-zeros (size - length (flat rows)));
-      })
-
-  -- any rows, sorted in their place
-  pub laid-sorted : (s : Words) → length rows * w ≤ size → length s ≡ size → cut w (length rows) s ≡ sorted (cut w (length rows) (laid size rows))
-      → drop (length rows * w) s ≡ drop (length rows * w) (laid size rows) → Holds w (length rows) (sorted rows) s
-  laid-sorted s h l e f =
-      let is : cut w (length rows) s ≡ sorted rows = e ∙ ap sorted laid-cut in
-      holds w (length rows) (sorted rows) s is
-      (record {
-        fits = omega arith;
-        up = subst (λ (rows : Rows). T (rising rows)) (sym is) (rising-sorted rows);
-        zeros = subst (λ (ws : Words). T (all (eqb 0) ws)) (sym (f ∙ rest h)) (all-zeros (size - length (flat rows)));
+        zeros = laid-zeros;
       })
