@@ -6,7 +6,6 @@ use mathlib.Core.Bool.{Bool, true, false, cond}
 use mathlib.Core.List.{_++_, map}
 use mathlib.Core.Logic.{_⊎_, inl, inr, ⊎-elim}
 use native.Mathlib.Nat.{not-suc-le-zero}
-use native.Mathlib.Numerals.{add-one}
 use native.Mathlib.Omega.{arith}
 use lib.Dec.{T, ltb, ltb→lt}
 use lib.ListN.{length, take, drop, set, take-append-drop, length-drop}
@@ -29,13 +28,6 @@ use Rattle.places.proofs.Splices.{length-splice, part-splice, at-splice
 pub start-first : (s : Sheet) → start s 0 ≡ 9
 unfolding start
 start-first s = refl
-
-pub stop-next : (s : Sheet) (part : ℕ) → stop s part ≡ start s (part + 1)
-stop-next s part = sym (ap (start s) (add-one part) ∙ start-next s part)
-
-pub stop-last : (s : Sheet) → stop s (s .n) ≡ storeLength s
-unfolding storeLength
-stop-last s = stop-next s (s .n)
 
 pub stop-inside : (s : Sheet) (part : ℕ) → part ≤ s .n → stop s part ≤ storeLength s
 stop-inside s part l = part-inside s part l

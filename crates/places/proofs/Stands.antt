@@ -1,35 +1,32 @@
 -- A sound store stands for its model; a store that stands for a model is that model's words; and a part written anew, with its count, leaves a store
 -- that stands for the model with these rows in that part. So ends the proof of every write.
 -- Assumes nothing.
-use Prim.Native.Nat.{ℕ, _+_, _*_, _-_, _<_, _≤_}
-use mathlib.Core.Path.{_≡_, sym, ap, ap₂, _∙_, subst}
-use mathlib.Core.Bool.{_||_}
+use Prim.Native.Nat.{ℕ, _+_, _<_, _≤_}
+use mathlib.Core.Path.{_≡_, sym, ap, ap₂, _∙_}
 use mathlib.Core.List.{[], _∷_, _++_, map}
 use mathlib.Core.Logic.{⊎-elim}
 use native.Mathlib.Omega.{arith}
-use lib.Dec.{T, ltb, leb, eqb, ltb→lt, le→leb}
-use lib.ListN.{length, take, drop, set, length-set, List·getD-append, List·getD-eq-default}
+use lib.Dec.{T, ltb, ltb→lt}
+use lib.ListN.{length, take, set, length-set, List·getD-append, List·getD-eq-default}
 use lib.Seq.{ext-getD, getD-take, length-take-le, getD-set-other}
 use borrow.Author.Tests.{ltb-false}
-use Rattle.lists.specs.Lists.{Words, at, all, flat, from, upTo}
+use Rattle.lists.specs.Lists.{Words, at, flat, upTo}
 use Rattle.lists.specs.Parts.{part, splice}
-use Rattle.lists.proofs.Truth.{F→≡, map-same, upTo-mem, from-mem, all-make, eq→eqb, decided, or-inl, or-inr}
-use Rattle.lists.proofs.Places.{map-getD}
-use Rattle.rows.specs.Rows.{Rows, rising, noKeyTwice}
+use Rattle.lists.proofs.Truth.{F→≡, map-same, upTo-mem, decided}
+use Rattle.rows.specs.Rows.{Rows}
 use Rattle.rows.specs.Regions.{laid, Region, Holds}
 use Rattle.rows.proofs.Regions.{region-holds, holds-same, holds-count}
-use Rattle.meaning.specs.Sheet.{Sheet, tables, room}
-use Rattle.meaning.specs.Plan.{kept, columns, size, start, storeLength}
+use Rattle.meaning.specs.Sheet.{Sheet}
+use Rattle.meaning.specs.Plan.{columns, size, start, storeLength}
 use Rattle.meaning.specs.Base.{rowsOf}
 use Rattle.meaning.specs.Meaning.{Model}
-use Rattle.meaning.specs.Store.{partsOf, partRows, counts, padded, storeOf, count, partWords, rowsAt, modelOf, soundPart, soundTable, sound}
-use Rattle.laws.proofs.Lists.{here-or, at-upTo, together}
+use Rattle.meaning.specs.Store.{partsOf, partRows, counts, padded, storeOf, count, partWords, rowsAt, modelOf, sound}
+use Rattle.laws.proofs.Lists.{here-or, at-upTo}
 use Rattle.laws.proofs.Sheets.{Good}
 use Rattle.laws.proofs.Models.{part-side, part-list}
 use Rattle.laws.proofs.Stores.{sound-get, model-many, model-part, count-fits, part-long}
 use Rattle.places.specs.Stands.{slot, stop, Stands, withPart}
-use Rattle.places.proofs.Splices.{set-splice}
-use Rattle.places.proofs.Parts.{start-after, stop-inside, slot-table, slot-list, slot-nine, slot-absent, pieces, words-length, spliced-length, spliced-own, spliced-other, spliced-count, counted-words, counted-own, counted-other}
+use Rattle.places.proofs.Parts.{slot-table, slot-list, slot-nine, slot-absent, pieces, words-length, spliced-length, spliced-own, spliced-other, spliced-count, counted-words, counted-own, counted-other}
 use Rattle.places.proofs.Models.{with-many, with-own, with-other}
 
 -- A sound store: each part is a region, and the whole stands for its model
@@ -104,52 +101,6 @@ module _ (s : Sheet) (g : Good s) (ws : Words) (m : Model) (st : Stands s ws m) 
       part-is : (part : ℕ) → part ≤ s .n → partWords s ws part ≡ padded (size s part) (flat (partRows m part))
       part-is part l = st .holds part l .words ∙ ap (λ (k : ℕ). laid k (partRows m part)) (words-length s ws (st .long) part l)
 
-  -- and it is read as the model
-  pub stands-model : modelOf s ws ≡ m
-  unfolding modelOf
-  stands-model = λ i. record { sides = sides i; list = list i }
-    where
-      sides : map (rowsAt s ws) (tables s) ≡ m .sides
-      sides =
-          map-same (rowsAt s ws) (partRows m) (tables s) (λ t i. stands-rows t (omega (arith, upTo-mem (s .n) t i)))
-          ∙ ap (λ k. map (partRows m) (upTo k)) (sym (st .many)) ∙ map-getD [] (m .sides) (m .list ∷ [])
-
-      list : rowsAt s ws (s .n) ≡ m .list
-      list = stands-rows (s .n) (omega arith) ∙ part-list m (s .n) (st .many)
-
-  -- it is sound if besides no count exceeds its room, no key stands twice in a side table, and unkept tables have no rows
-  pub stands-sound : ((part : ℕ) → part ≤ s .n → length (partRows m part) ≤ room s part) → ((t : ℕ) → t < s .n → T (noKeyTwice (rowsOf (m .sides) t)))
-      → ((t : ℕ) → t < s .n → (T (kept s t) → ⊥) → rowsOf (m .sides) t ≡ []) → T (sound s ws)
-  unfolding sound soundPart soundTable rowsAt
-  stands-sound within once unkept =
-      together (eqb (length ws) (storeLength s))
-      (all (λ t. eqb (at ws t) 0) (from (s .n) (8 - s .n)) ∷ all (soundPart s ws) (partsOf s) ∷ all (soundTable s ws) (tables s) ∷ []) (
-        eq→eqb (st .long),
-        (
-          all-make (λ t. eqb (at ws t) 0) (from (s .n) (8 - s .n)) (λ t i. let b = from-mem (s .n) (8 - s .n) t i in
-              eq→eqb (st .absent t (b .0) (omega (arith, b .1, g .counts .eight)))),
-          (
-            all-make (soundPart s ws) (partsOf s) (λ part i. of-part part (omega (arith, upTo-mem (s .n + 1) part i))),
-            (all-make (soundTable s ws) (tables s) (λ t i. of-table t (upTo-mem (s .n) t i)), tt),
-          ),
-        ),
-      )
-    where
-      of-part : (part : ℕ) → part ≤ s .n → T (soundPart s ws part)
-      of-part part l =
-          let r = st .holds part l .region in
-          together (leb (count s ws part) (room s part)) (rising (rowsAt s ws part) ∷ all (eqb 0) (drop (count s ws part * columns s part) (partWords s ws part)) ∷ [])
-          (le→leb (count s ws part) (room s part) (omega (arith, stands-count part l, within part l)), (r .up, (r .zeros, tt)))
-
-      of-table : (t : ℕ) → t < s .n → T (soundTable s ws t)
-      of-table t l =
-          let rows = stands-rows t (omega arith) ∙ part-side m (s .n) (st .many) t l in
-          together (kept s t || eqb (count s ws t) 0) (noKeyTwice (rowsAt s ws t) ∷ []) (
-            ⊎-elim (λ k. or-inl (kept s t) (eqb (count s ws t) 0) k) (λ k. or-inr (kept s t) (eqb (count s ws t) 0)
-                (eq→eqb (stands-count t (omega arith) ∙ ap length (part-side m (s .n) (st .many) t l ∙ unkept t l k)))) (decided (kept s t)),
-            (subst (λ (l : Rows). T (noKeyTwice l)) (sym rows) (once t l), tt),
-          )
-
 held-as : (w : ℕ) {n n′ : ℕ} {rows rows′ : Rows} {x x′ : Words} → n′ ≡ n → rows′ ≡ rows → x′ ≡ x → Holds w n rows x → Holds w n′ rows′ x′
 held-as w e f q h = rw (e, f, q) h
 
@@ -186,10 +137,3 @@ module _ (s : Sheet) (g : Good s) (ws : Words) (m : Model) (st : Stands s ws m) 
       other q j d =
           held-as (columns s q) (counted-other s g spliced p k i q j d ∙ spliced-count s ws (st .long) p i x size-x (slot s q) (slot-nine s g q))
           (with-other m (s .n) (st .many) rows p q i d) (counted-words s g spliced p k q ∙ spliced-other s ws (st .long) p i x size-x q d) (st .holds q j)
-
-  -- its count set first, its words written then
-  pub stands-written-after : Stands s (splice (set ws (slot s p) k) (start s p) (stop s p) x) (withPart m p rows)
-  stands-written-after =
-      subst (λ (y : Words). Stands s y (withPart m p rows))
-      (set-splice ws (start s p) (stop s p) x (omega arith) (omega (arith, stop-inside s p i, st .long)) (slot s p) k (omega (arith, start-after s p, slot-nine s g p)))
-      stands-written

@@ -51,10 +51,6 @@ module _ (s : Sheet) (g : Good s) (ws : Words) (h : T (sound s ws)) where
       → set (splice ws (start s t) (stop s t) x) t k ≡ storeOf s (record { sides = set (modelOf s ws .sides) t rows; list = modelOf s ws .list })
   side-words t l rows k x held size-x = stands-words s g _ _ (side-written s g ws _ st t l rows k x held size-x)
 
-  pub list-words : (rows : Rows) (k : ℕ) (x : Words) → Holds (columns s (s .n)) k rows x → length x ≡ size s (s .n)
-      → set (splice ws (start s (s .n)) (stop s (s .n)) x) 8 k ≡ storeOf s (record { sides = modelOf s ws .sides; list = rows })
-  list-words rows k x held size-x = stands-words s g _ _ (list-written s g ws _ st rows k x held size-x)
-
   pub both-words : (t : ℕ) → t < s .n → (rows : Rows) (k : ℕ) (x : Words) → Holds (columns s t) k rows x → length x ≡ size s t
       → (list : Rows) (j : ℕ) (y : Words) → Holds (columns s (s .n)) j list y → length y ≡ size s (s .n)
       → set (splice (set (splice ws (start s t) (stop s t) x) t k) (start s (s .n)) (stop s (s .n)) y) 8 j
