@@ -23,7 +23,10 @@ fn main() {
         Err(_) => made(),
     };
     if !folder.join("liboratjolet.a").is_file() {
-        stop(&format!("there is no liboratjolet.a in {}", folder.display()));
+        stop(&format!(
+            "there is no liboratjolet.a in {}",
+            folder.display()
+        ));
     }
     println!("cargo:rustc-link-search=native={}", folder.display());
     println!("cargo:rustc-link-lib=static=oratjolet");
@@ -31,9 +34,14 @@ fn main() {
 
 // `rt staticlib oratjolet` proves what has changed and writes target/staticlib/liboratjolet.a of the repository.
 fn made() -> PathBuf {
-    let top = Path::new(env!("CARGO_MANIFEST_DIR")).parent().expect("rust/ stands in the repository");
+    let top = Path::new(env!("CARGO_MANIFEST_DIR"))
+        .parent()
+        .expect("rust/ stands in the repository");
     println!("cargo:rerun-if-changed={}", top.join("crates").display());
-    println!("cargo:rerun-if-changed={}", top.join("crates.txt").display());
+    println!(
+        "cargo:rerun-if-changed={}",
+        top.join("crates.txt").display()
+    );
     match Command::new("rt").args(["staticlib", "oratjolet"]).current_dir(top).output() {
         Ok(ran) if ran.status.success() => top.join("target/staticlib"),
         Ok(ran) => stop(&format!("rt staticlib oratjolet failed:\n{}", String::from_utf8_lossy(&ran.stderr))),

@@ -39,23 +39,37 @@ mod ffi {
     extern "C" {
         pub fn oratjolet_plan(sheet: *const u64, sheet_length: usize, plan: *mut u64) -> u64;
         pub fn oratjolet_fill(
-            sheet: *const u64, sheet_length: usize,
-            base: *const u64, base_length: usize,
-            store: *mut u64, store_length: usize,
-            taken: *mut u64, added: *mut u64,
+            sheet: *const u64,
+            sheet_length: usize,
+            base: *const u64,
+            base_length: usize,
+            store: *mut u64,
+            store_length: usize,
+            taken: *mut u64,
+            added: *mut u64,
         ) -> u64;
         pub fn oratjolet_change(
-            sheet: *const u64, sheet_length: usize,
-            store: *mut u64, store_length: usize,
-            kind: u64, table: u64,
-            old: *const u64, old_length: usize,
-            new: *const u64, new_length: usize,
-            taken: *mut u64, added: *mut u64,
+            sheet: *const u64,
+            sheet_length: usize,
+            store: *mut u64,
+            store_length: usize,
+            kind: u64,
+            table: u64,
+            old: *const u64,
+            old_length: usize,
+            new: *const u64,
+            new_length: usize,
+            taken: *mut u64,
+            added: *mut u64,
         ) -> u64;
         pub fn oratjolet_show(
-            sheet: *const u64, sheet_length: usize,
-            store: *const u64, store_length: usize,
-            part: u64, first: *mut u64, count: *mut u64,
+            sheet: *const u64,
+            sheet_length: usize,
+            store: *const u64,
+            store_length: usize,
+            part: u64,
+            first: *mut u64,
+            count: *mut u64,
         ) -> u64;
     }
 }
@@ -179,7 +193,14 @@ pub fn plan(sheet: &[u64]) -> Result<Plan, Refusal> {
             room: words[212 + t],
         })
         .collect();
-    numbered(number, Plan { root: words[2], store: words[3], tables })
+    numbered(
+        number,
+        Plan {
+            root: words[2],
+            store: words[3],
+            tables,
+        },
+    )
 }
 
 /// The fill call: the base tables' rows into a store, whatever it held.
@@ -188,27 +209,44 @@ pub fn fill(sheet: &[u64], base: &[u64], store: &mut [u64]) -> Result<Answer, Re
     // The pointers are those of live slices; `store` is borrowed alone, so it overlaps none of the others.
     let number = unsafe {
         ffi::oratjolet_fill(
-            sheet.as_ptr(), sheet.len(),
-            base.as_ptr(), base.len(),
-            store.as_mut_ptr(), store.len(),
-            &mut answer.taken, &mut answer.added,
+            sheet.as_ptr(),
+            sheet.len(),
+            base.as_ptr(),
+            base.len(),
+            store.as_mut_ptr(),
+            store.len(),
+            &mut answer.taken,
+            &mut answer.added,
         )
     };
     numbered(number, answer)
 }
 
 /// The change call: one change of any kind (1 insert, 2 delete, 3 update) of any table.
-pub fn change(sheet: &[u64], store: &mut [u64], kind: u64, table: u64, old: &[u64], new: &[u64]) -> Result<Answer, Refusal> {
+pub fn change(
+    sheet: &[u64],
+    store: &mut [u64],
+    kind: u64,
+    table: u64,
+    old: &[u64],
+    new: &[u64],
+) -> Result<Answer, Refusal> {
     let mut answer = Answer::default();
     // As for fill.
     let number = unsafe {
         ffi::oratjolet_change(
-            sheet.as_ptr(), sheet.len(),
-            store.as_mut_ptr(), store.len(),
-            kind, table,
-            old.as_ptr(), old.len(),
-            new.as_ptr(), new.len(),
-            &mut answer.taken, &mut answer.added,
+            sheet.as_ptr(),
+            sheet.len(),
+            store.as_mut_ptr(),
+            store.len(),
+            kind,
+            table,
+            old.as_ptr(),
+            old.len(),
+            new.as_ptr(),
+            new.len(),
+            &mut answer.taken,
+            &mut answer.added,
         )
     };
     numbered(number, answer)
@@ -219,7 +257,15 @@ pub fn show<'a>(sheet: &[u64], store: &'a [u64], part: u64) -> Result<&'a [u64],
     let (mut first, mut count) = (0, 0);
     // As for plan.
     let number = unsafe {
-        ffi::oratjolet_show(sheet.as_ptr(), sheet.len(), store.as_ptr(), store.len(), part, &mut first, &mut count)
+        ffi::oratjolet_show(
+            sheet.as_ptr(),
+            sheet.len(),
+            store.as_ptr(),
+            store.len(),
+            part,
+            &mut first,
+            &mut count,
+        )
     };
     numbered(number, &store[first as usize..][..count as usize])
 }
@@ -235,7 +281,10 @@ impl Sheet {
     /// Takes the words of a sheet, if they are one.
     pub fn new(words: &[u64]) -> Result<Sheet, Refusal> {
         let plan = plan(words)?;
-        Ok(Sheet { words: words.to_vec(), plan })
+        Ok(Sheet {
+            words: words.to_vec(),
+            plan,
+        })
     }
 
     pub fn words(&self) -> &[u64] {
@@ -250,9 +299,19 @@ impl Sheet {
 /// A change of one table's rows.
 #[derive(Clone, Copy, Debug)]
 pub enum Change<'a> {
-    Insert { table: u64, row: &'a [u64] },
-    Delete { table: u64, row: &'a [u64] },
-    Update { table: u64, old: &'a [u64], new: &'a [u64] },
+    Insert {
+        table: u64,
+        row: &'a [u64],
+    },
+    Delete {
+        table: u64,
+        row: &'a [u64],
+    },
+    Update {
+        table: u64,
+        old: &'a [u64],
+        new: &'a [u64],
+    },
 }
 
 /// The words of a list and its side tables.
@@ -264,7 +323,9 @@ pub struct Store {
 impl Store {
     /// The store of empty tables.
     pub fn empty(sheet: &Sheet) -> Store {
-        Store { words: vec![0; sheet.plan.store as usize] }
+        Store {
+            words: vec![0; sheet.plan.store as usize],
+        }
     }
 
     /// A store filled from base tables: n counts, then the rows, table by table.

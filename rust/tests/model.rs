@@ -16,7 +16,11 @@ fn number<T>(result: &Result<T, Refusal>) -> u64 {
 fn stored(result: Result<Answer, Refusal>, store: &[u64]) -> Vec<u64> {
     let number = number(&result);
     let answer = result.unwrap_or_default();
-    [&[number, answer.taken, answer.added, store.len() as u64], store].concat()
+    [
+        &[number, answer.taken, answer.added, store.len() as u64],
+        store,
+    ]
+    .concat()
 }
 
 /// The plan's 220 words behind its head, as the model lays them out.
@@ -31,7 +35,10 @@ fn planned(result: Result<Plan, Refusal>) -> Vec<u64> {
     words[5..8].copy_from_slice(&[plan.tables.len() as u64, plan.root, plan.store]);
     for (t, table) in plan.tables.iter().enumerate() {
         words[8 + t] = u64::from(table.kept);
-        for (place, set) in [&table.columns, &table.dep, &table.need].into_iter().enumerate() {
+        for (place, set) in [&table.columns, &table.dep, &table.need]
+            .into_iter()
+            .enumerate()
+        {
             for x in set {
                 words[16 + 64 * place + 8 * t + x] = 1;
             }
@@ -55,9 +62,16 @@ fn the_calls_are_the_models() {
                 let mut words = store.clone();
                 stored(fill(sheet, run, &mut words), &words)
             }
-            Call::Change { sheet, store, change: c } => {
+            Call::Change {
+                sheet,
+                store,
+                change: c,
+            } => {
                 let mut words = store.clone();
-                stored(change(sheet, &mut words, c.kind, c.table, &c.old, &c.new), &words)
+                stored(
+                    change(sheet, &mut words, c.kind, c.table, &c.old, &c.new),
+                    &words,
+                )
             }
             Call::Show { sheet, store, part } => {
                 let part = show(sheet, store, *part);
@@ -67,7 +81,11 @@ fn the_calls_are_the_models() {
                     Err(_) => 0,
                 };
                 assert_eq!(shown, &store[first as usize..][..shown.len()]);
-                [&[number(&part), first, shown.len() as u64, store.len() as u64], store.as_slice()].concat()
+                [
+                    &[number(&part), first, shown.len() as u64, store.len() as u64],
+                    store.as_slice(),
+                ]
+                .concat()
             }
         };
         assert_eq!(found, expected, "call {tried}: {call:?}");
