@@ -21,7 +21,7 @@ pub fn change(
     let v = checked.verdict;
     let plan = checked.plan;
     let Verdict::Good = v else {
-        let number = store::number_of(v);
+        let number = sheet::number_of(v);
         return Answer::Refused(number);
     };
     if store.len() != plan.store {
@@ -29,7 +29,7 @@ pub fn change(
     }
     let asked = kinds::asked(sheet, kind, table, old, new);
     let Verdict::Good = asked else {
-        let number = store::number_of(asked);
+        let number = sheet::number_of(asked);
         return Answer::Refused(number);
     };
     if !store::is_sound(plan, store) {

@@ -75,7 +75,7 @@ pub fn fill(sheet: &[u64], base: &[u64], store: &mut [u64]) -> Answer
     let v = checked.verdict;
     let plan = checked.plan;
     let Verdict::Good = v else {
-        return Answer::Refused(store::number_of(v));
+        return Answer::Refused(sheet::number_of(v));
     };
     if store.len() != plan.store {
         return Answer::Refused(4);

@@ -4,7 +4,8 @@ use Prim.Native.Nat.{ℕ}
 use mathlib.Core.Path.{_≡_, sym, ap, _∙_}
 use Rattle.lists.specs.Lists.{Words}
 use Rattle.meaning.specs.Answers.{Outcome}
-use Rattle.oratjolet.specs.Exports.{firstOf, Planned, Shown, Left}
+use Rattle.store.specs.Shows.{firstOf}
+use Rattle.oratjolet.specs.Exports.{Planned, Shown, Left}
 
 pub planned-once : (sheet : Words) (k j : ℕ) (v w : Words) → Planned sheet k v → Planned sheet j w → (k ≡ j) × (v ≡ w)
 planned-once sheet k j v w x y = (x .number-is ∙ sym (y .number-is), x .words-are ∙ sym (y .words-are))

@@ -19,8 +19,8 @@ use Rattle.layout.specs.declared.Plan.{Plan}
 use Rattle.layout.specs.Plans.{checkedOf}
 use Rattle.layout.specs.Planned.{Planned}
 use Rattle.layout.proofs.Planning.{planned}
-use Rattle.store.specs.Shows.{Gives}
-use Rattle.oratjolet.specs.Exports.{firstOf, Shown}
+use Rattle.store.specs.Shows.{Gives, firstOf}
+use Rattle.oratjolet.specs.Exports.{Shown}
 
 passed : (b : Bool) (k rest : ℕ) → unless b (suc k) rest ≡ 0 → (b ≡ true) × (rest ≡ 0)
 passed true k rest e = (refl, e)

@@ -2,17 +2,15 @@
 -- Assumes nothing.
 use Prim.Native.Nat.{ℕ}
 use mathlib.Core.Path.{_≡_}
-use mathlib.Core.Bool.{cond}
 use mathlib.Core.List.{[], _∷_, _++_}
-use lib.Dec.{eqb}
 use lib.ListN.{length, take, drop}
 use Rattle.lists.specs.Lists.{Words}
-use Rattle.meaning.specs.Sheet.{sheetOf}
-use Rattle.meaning.specs.Plan.{plan, start}
+use Rattle.meaning.specs.Plan.{plan}
 use Rattle.meaning.specs.Store.{show}
 use Rattle.meaning.specs.Answers.{Outcome}
 use Rattle.store.specs.declared.Answer.{Answer}
 use Rattle.store.specs.Answers.{numberOf, takenOf, addedOf}
+use Rattle.store.specs.Shows.{firstOf}
 use Rattle.plans.specs.Answers.{laid}
 use Rattle.plans.specs.declared.PlanAnswer.{PlanAnswer}
 
@@ -23,10 +21,6 @@ planWords a = (a .number ∷ a .tables ∷ a .root ∷ a .store ∷ []) ++ a .ke
 pub record Planned (sheet : Words) (number : ℕ) (answer : Words) : Type 0 where
   pub number-is : number ≡ plan sheet .number
   pub words-are : answer ≡ planWords (laid (plan sheet))
-
--- where the rows of a part begin: 0 if the call is refused
-unfoldable pub firstOf : Words → ℕ → ℕ → ℕ
-firstOf sheet part number = cond (eqb number 0) (start (sheetOf sheet) part) 0
 
 -- The show call: the stretch of the store that it names is the one that document 01 hands back
 pub record Shown (sheet store : Words) (part number first count : ℕ) : Type 0 where

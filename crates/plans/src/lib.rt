@@ -113,8 +113,8 @@ pub fn plan_of(sheet: &[u64]) -> PlanAnswer
     let c = layout::check(sheet);
     let v = c.verdict;
     let p = c.plan;
-    match v {
-        Verdict::Refused(k) => refused_answer(k),
-        Verdict::Good => answer_for(p),
-    }
+    let Verdict::Good = v else {
+        return refused_answer(sheet::number_of(v));
+    };
+    answer_for(p)
 }

@@ -7,7 +7,7 @@ ghost use Rattle.meaning.specs.Sheet.{sheetOf, goodTree};
 ghost use Rattle.words.specs.Counted.{counted};
 ghost use Rattle.words.specs.Rules.{Counts, Rules};
 ghost use Rattle.sheet.specs.Tree.{goesNo, oneInto, rootNo, reachedNo, Joined};
-ghost use Rattle.sheet.specs.Verdicts.{verdictOf};
+ghost use Rattle.sheet.specs.Verdicts.{verdictOf, numberOf};
 
 pub enum Verdict {
     Good,
@@ -145,4 +145,14 @@ pub fn verdict_of(sheet: &[u64]) -> Verdict
         return Verdict::Refused(3);
     }
     Verdict::Good
+}
+
+// Document 01's number of a verdict on a sheet: 0 for a good one.
+pub fn number_of(v: Verdict) -> u64
+    ensures { λ k. ⌜ k ≡ numberOf v ⌝ }
+{
+    match v {
+        Verdict::Good => 0,
+        Verdict::Refused(k) => k,
+    }
 }

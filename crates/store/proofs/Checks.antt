@@ -39,3 +39,6 @@ module _ (ws : Words) (c : Checked) (e : c ≡ checkedOf ws) where
   check-numbered k r z =
       let good : c .verdict ≡ Good = verdict-is ∙ zero-good ws (check-refused k r ∙ z) in
       let q : _≡_ {A = ℕ} 0 1 = cc in omega arith
+
+  pub check-some : (k r : ℕ) → c .verdict ≡ Refused k → r ≡ numberOf (c .verdict) → r ≡ 0 → ⊥
+  check-some k r v q z = check-numbered k v (sym (q ∙ ap numberOf v) ∙ z)

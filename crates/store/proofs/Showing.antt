@@ -20,12 +20,18 @@ use Rattle.places.proofs.Stands.{sound-stands}
 use Rattle.store.specs.declared.Part.{Part}
 use Rattle.store.specs.Parts.{countIn, Lies, Kept}
 use Rattle.store.specs.Plans.{GoodPlan, partOf, SoundIs}
-use Rattle.store.specs.Shows.{Gives}
+use Rattle.store.specs.Shows.{Gives, firstOf}
 use Rattle.store.proofs.Parts.{words-length}
 use Rattle.store.proofs.Lying.{count-is, lies-kept}
 use Rattle.store.proofs.Plans.{tables-is, store-is, part-lies}
 use Rattle.store.proofs.Checks.{check-good, check-plan, check-refused, check-numbered}
 use Rattle.store.proofs.Shows.{shows-sheet, shows-4, shows-5, shows-7, shows-0}
+
+-- the part that an accepted call shows
+pub record Shown (sheet store : Words) (number : ℕ) (q : Part) : Type 0 where
+  pub kept : Kept q store
+  pub rows : Gives sheet store number (part store (q .start) (q .start + countIn q store * q .columns)) 0
+  pub place : q .start ≡ firstOf sheet number 0
 
 -- the rows of a part are its first words
 pub stretch-is : (s : Sheet) (number : ℕ) (q : Part) → Lies s number q → (ws : Words)
@@ -78,12 +84,15 @@ module _ (sheet store : Words) (number : ℕ) (c : Checked) (e : c ≡ checkedOf
           lies : Lies (sheetOf sheet) number q
           lies = part-lies (sheetOf sheet) (c .plan) plan number inside q p
 
-          pub show-kept : Kept q store
-          show-kept =
-              lies-kept (sheetOf sheet) number q lies (plan .good) store (modelOf (sheetOf sheet) store)
-              (sound-stands (sheetOf sheet) (plan .good) store (isT (found ∙ t)))
-
-          pub show-rows : Gives sheet store number (part store (q .start) (q .start + countIn q store * q .columns)) 0
-          show-rows =
-              subst (λ (w : Words). Gives sheet store number w 0) (sym (stretch-is (sheetOf sheet) number q lies store))
-              (shows-0 sheet store number good (l ∙ long-is) inside (found ∙ t))
+          pub show-part : Shown sheet store number q
+          unfolding firstOf
+          show-part =
+              record {
+                kept =
+                    lies-kept (sheetOf sheet) number q lies (plan .good) store (modelOf (sheetOf sheet) store)
+                    (sound-stands (sheetOf sheet) (plan .good) store (isT (found ∙ t)));
+                rows =
+                    subst (λ (w : Words). Gives sheet store number w 0) (sym (stretch-is (sheetOf sheet) number q lies store))
+                    (shows-0 sheet store number good (l ∙ long-is) inside (found ∙ t));
+                place = lies .start-is;
+              }

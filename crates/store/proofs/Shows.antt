@@ -1,21 +1,38 @@
 -- Each way through the show call: what it gives when a test is not passed, and when all are.
 -- Assumes nothing.
-use Prim.Native.Nat.{ℕ, zero, suc, _<_, _≤_}
-use mathlib.Core.Path.{_≡_, refl, sym, _∙_}
+use Prim.Native.Nat.{ℕ, zero, suc, _+_, _*_, _<_, _≤_}
+use mathlib.Core.Path.{_≡_, refl, sym, ap, _∙_}
 use mathlib.Core.Bool.{true, false}
 use mathlib.Core.List.{[]}
 use native.Mathlib.Omega.{arith}
 use lib.ListN.{length}
 use borrow.Author.Tests.{eq-eqb, ne-eqb, le-leb, lt-leb}
 use Rattle.lists.specs.Lists.{Words}
-use Rattle.store.specs.Shows.{Gives}
+use denote.Ref.{RefT}
+use Rattle.store.specs.Shows.{Gives, firstOf, wordAt, HandsBack}
 use Rattle.meaning.specs.Sheet.{sheetOf, sheetRefusal}
 use Rattle.meaning.specs.Plan.{storeLength}
 use Rattle.meaning.specs.Store.{sound, showRefusal, stretchOf, show}
 
--- two answers that keep the promise are the same
-pub gives-once : (sheet store : Words) (part : ℕ) (v w : Words) (j k : ℕ) → Gives sheet store part v j → Gives sheet store part w k → (v ≡ w) × (j ≡ k)
-gives-once sheet store part v w j k x y = (x .words-are ∙ sym (y .words-are), x .number-is ∙ sym (y .number-is))
+-- two answers that keep the promise are the same: words, place and number
+pub gives-once : (sheet : Words) (store : RefT Words) (part : ℕ) (v w : RefT Words) (j k : ℕ) → HandsBack sheet store part v j → HandsBack sheet store part w k
+    → (v .now ≡ w .now) × (v .ptr ≡ w .ptr) × (j ≡ k)
+gives-once sheet store part v w j k x y =
+    let same = x .gives .number-is ∙ sym (y .gives .number-is) in
+    (x .gives .words-are ∙ sym (y .gives .words-are), x .stands ∙ ap (λ (n : ℕ). wordAt store (firstOf sheet part n)) same ∙ sym (y .stands), same)
+
+-- a refusal hands back no words, from the store's first
+pub none-back : {sheet : Words} {store : RefT Words} {part : ℕ} {rows : RefT Words} {k : ℕ} → (k ≡ 0 → ⊥) → rows .ptr ≡ store .ptr
+    → Gives sheet (store .now) part (rows .now) k → HandsBack sheet store part rows k
+unfolding firstOf
+none-back {store} {k} d e g =
+    let first : store .ptr .1 ≡ 0 * 8 + store .ptr .1 = omega arith in
+    record { gives = g; stands = rw (ne-eqb k 0 d) (e ∙ ap (λ (o : ℕ). (store .ptr .0, o)) first) }
+
+-- an accepted call hands back the part's rows, from where the part begins
+pub rows-back : {sheet : Words} {store : RefT Words} {part : ℕ} {rows : RefT Words} {first : ℕ} → first ≡ firstOf sheet part 0 → rows .ptr ≡ wordAt store first
+    → Gives sheet (store .now) part (rows .now) 0 → HandsBack sheet store part rows 0
+rows-back {store} f e g = record { gives = g; stands = e ∙ ap (wordAt store) f }
 
 module _ (sheet store : Words) (part : ℕ) where
   -- a refusal's number and no words

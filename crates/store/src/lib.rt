@@ -10,10 +10,9 @@ ghost use lib.ListN.{length, set};
 ghost use Rattle.rows.specs.Rows.{rising, putRow, takeRow};
 ghost use Rattle.rows.specs.Ranks.{foundRow, foundKey};
 ghost use Rattle.rows.specs.Marks.{unmarked, Tallied, Marking};
-ghost use Rattle.sheet.specs.Verdicts.{numberOf};
 ghost use Rattle.store.specs.Tests.{absentZero};
 ghost use Rattle.store.specs.Parts.{countIn, rowsIn, soundIn, Within, Kept, Wrote};
-ghost use Rattle.store.specs.Shows.{Gives};
+ghost use Rattle.store.specs.Shows.{HandsBack};
 ghost use Rattle.store.specs.Plans.{OfSheet, partOf, TableIs, SidesIs, SoundIs};
 
 // What fill and change answer: rows taken from the list and rows added to it, or the number of the refusal.
@@ -135,26 +134,16 @@ pub fn is_sound(plan: Plan, store: &[u64]) -> bool
     part_sound(store, p, false)
 }
 
-// Document 01's number of a verdict on a sheet: 0 for a good one.
-pub fn number_of(v: Verdict) -> u64
-    ensures { λ k. ⌜ k ≡ numberOf v ⌝ }
-{
-    match v {
-        Verdict::Good => 0,
-        Verdict::Refused(k) => k,
-    }
-}
-
 // The rows of part `number`, a table's or at n the list's: the stretch of the store that holds them, empty for an unkept table.
 // A refusal's number goes into the lent word, 0 if there is none.
 pub fn show<'a>(sheet: &[u64], store: &'a [u64], number: u64, refusal: &mut u64) -> &'a [u64]
-    ensures { λ r. ⌜ Gives (now (sheet .entry)) (now (store .entry)) number (now r) (now (refusal .exit)) ⌝ }
+    ensures { λ r. ⌜ HandsBack (now (sheet .entry)) (store .entry) number r (now (refusal .exit)) ⌝ }
 {
     let checked = layout::check(sheet);
     let v = checked.verdict;
     let plan = checked.plan;
     let Verdict::Good = v else {
-        *refusal = number_of(v);
+        *refusal = sheet::number_of(v);
         return &store[..0];
     };
     if store.len() != plan.store {

@@ -10,19 +10,19 @@ show-requires : tie.Need-show-requires
 show-requires c κs = search needs
 
 returns : tie.Need-returns
-returns c = shown-refused _ _ _ _ _ (c .before .show .ensures) (c .if1 .taken)
+returns c = shown-refused _ _ _ _ _ (c .before .show .ensures .gives) (c .if1 .taken)
 
 check-requires : tie.Need-check-requires
 check-requires c κs = search needs
 
 mul-first : tie.Need-mul-first
-mul-first c = let h = part-in _ _ _ _ _ (c .before .before .before .show .ensures) (c .before .before .if1 .left) _ (c .before .check .ensures) in omega arith
+mul-first c = let h = part-in _ _ _ _ _ (c .before .before .before .show .ensures .gives) (c .before .before .if1 .left) _ (c .before .check .ensures) in omega arith
 
 element-copy-out-first : tie.Need-element-copy-out-first
-element-copy-out-first c = part-in _ _ _ _ _ (c .before .before .before .show .ensures) (c .before .before .if1 .left) _ (c .before .check .ensures)
+element-copy-out-first c = part-in _ _ _ _ _ (c .before .before .before .show .ensures .gives) (c .before .before .if1 .left) _ (c .before .check .ensures)
 
 returns-2 : tie.Need-returns-2
-returns-2 c = shown-rows _ _ _ _ _ (c .before .before .before .before .show .ensures) (c .before .before .before .if1 .left) _ (c .before .before .check .ensures)
+returns-2 c = shown-rows _ _ _ _ _ (c .before .before .before .before .show .ensures .gives) (c .before .before .before .if1 .left) _ (c .before .before .check .ensures)
 
 pub oratjolet-show-spec : {M : Type 1} → statement M
 oratjolet-show-spec =

@@ -2,10 +2,11 @@
 -- Assumes nothing.
 use borrow.Author.Tests.{not-true, not-false}
 use Rattle.lists.specs.Parts.{part}
-use Rattle.store.specs.Parts.{Kept}
+use mathlib.Core.Path.{refl}
 use Rattle.store.proofs.Plans.{few}
-use Rattle.store.proofs.Checks.{check-of}
-use Rattle.store.proofs.Showing.{stretch-ends, show-refused, show-length, show-number, show-unsound, show-kept, show-rows}
+use Rattle.store.proofs.Checks.{check-of, check-some}
+use Rattle.store.proofs.Shows.{none-back, rows-back}
+use Rattle.store.proofs.Showing.{Shown, stretch-ends, show-refused, show-length, show-number, show-unsound, show-part}
 use borrow.Author.Needs.{needs}
 use native.Mathlib.Omega.{arith}
 use Rattle.store.proofs.show.Statement.{statement}
@@ -27,19 +28,32 @@ slice-aggregate-result : tie.Need-slice-aggregate-result
 slice-aggregate-result c = search needs
 
 returns : tie.Need-returns
-returns c = show-refused _ _ _ _ (c .before .before .before .before .before .check .ensures) _ _ (c .before .before .enum-told2 .given .1) (c .before .number-of .ensures)
+returns c =
+    let at-number = c .before in
+    let at-verdict = at-number .before in
+    let checked = at-verdict .before .before .before .check .ensures in
+    let told = at-verdict .enum-told2 .given .1 in
+    none-back (check-some _ _ checked _ _ told (at-number .number-of .ensures)) refl (show-refused _ _ _ _ checked _ _ told (at-number .number-of .ensures))
 
 slice-aggregate-result-2 : tie.Need-slice-aggregate-result-2
 slice-aggregate-result-2 c = search needs
 
 returns-2 : tie.Need-returns-2
-returns-2 c = show-length _ _ _ _ (c .before .before .before .before .before .before .check .ensures) (c .before .before .before .enum-told .given .1) (c .before .if1 .taken)
+returns-2 c =
+    let at-length = c .before in
+    let at-good = at-length .before .before in
+    none-back (λ q. omega arith) refl (show-length _ _ _ _ (at-good .before .before .before .check .ensures) (at-good .enum-told .given .1) (at-length .if1 .taken))
 
 slice-aggregate-result-3 : tie.Need-slice-aggregate-result-3
 slice-aggregate-result-3 c = search needs
 
 returns-3 : tie.Need-returns-3
-returns-3 c = show-number _ _ _ _ (c .before .before .before .before .before .before .before .check .ensures) (c .before .before .before .before .enum-told .given .1) (c .before .before .if1 .left) (c .before .if2 .taken)
+returns-3 c =
+    let at-number = c .before in
+    let at-length = at-number .before in
+    let at-good = at-length .before .before in
+    none-back (λ q. omega arith) refl
+    (show-number _ _ _ _ (at-good .before .before .before .check .ensures) (at-good .enum-told .given .1) (at-length .if1 .left) (at-number .if2 .taken))
 
 is-sound-requires : tie.Need-is-sound-requires
 is-sound-requires c κs = check-of _ _ (c .before .before .before .before .before .before .check .ensures) (c .before .before .before .enum-told .given .1)
@@ -48,31 +62,44 @@ slice-aggregate-result-4 : tie.Need-slice-aggregate-result-4
 slice-aggregate-result-4 c = search needs
 
 returns-4 : tie.Need-returns-4
-returns-4 c = show-unsound _ _ _ _ (c .before .before .before .before .before .before .before .before .before .check .ensures) (c .before .before .before .before .before .before .enum-told .given .1) (c .before .before .before .before .if1 .left) (c .before .before .before .if2 .left) _ (c .before .before .is-sound .ensures) (not-true _ (c .before .if3 .taken))
+returns-4 c =
+    let at-sound = c .before in
+    let at-number = at-sound .before .before in
+    let at-length = at-number .before in
+    let at-good = at-length .before .before in
+    none-back (λ q. omega arith) refl
+    (show-unsound _ _ _ _ (at-good .before .before .before .check .ensures) (at-good .enum-told .given .1) (at-length .if1 .left) (at-number .if2 .left) _
+    (at-sound .before .is-sound .ensures) (not-true _ (at-sound .if3 .taken)))
 
 part-of-requires : tie.Need-part-of-requires
 part-of-requires c κs = (c .before .before .if2 .left, few _ (check-of _ _ (c .before .before .before .before .before .before .before .before .check .ensures) (c .before .before .before .before .before .enum-told .given .1)))
 
--- the part that is shown is kept in order
-kept : (c : tie.After-part-of) → Kept (c .part-of .result) (c .before .before .before .before .before .before .before .before .before .before .before .before .args .store .now)
-kept c =
-    show-kept _ _ _ _ (c .before .before .before .before .before .before .before .before .before .check .ensures) (c .before .before .before .before .before .before .enum-told .given .1) (c .before .before .before .before .if1 .left) (c .before .before .before .if2 .left) _ (c .before .before .is-sound .ensures)
-    (not-false _ (c .before .if3 .left)) _ (c .part-of .ensures)
+-- the part that is shown
+shown : (c : tie.After-part-of)
+    → let given = c .before .before .before .before .before .before .before .before .before .before .before .before .args in
+    Shown (given .sheet .now) (given .store .now) (given .number) (c .part-of .result)
+shown c =
+    let at-sound = c .before in
+    let at-number = at-sound .before .before in
+    let at-length = at-number .before in
+    let at-good = at-length .before .before in
+    show-part _ _ _ _ (at-good .before .before .before .check .ensures) (at-good .enum-told .given .1) (at-length .if1 .left) (at-number .if2 .left) _
+    (at-sound .before .is-sound .ensures) (not-false _ (at-sound .if3 .left)) _ (c .part-of .ensures)
 
 mul-count : tie.Need-mul-count
-mul-count c = omega (arith, kept c .within .counted)
+mul-count c = omega (arith, shown c .kept .within .counted)
 
 shared-slice-read-count : tie.Need-shared-slice-read-count
-shared-slice-read-count c = omega (arith, kept (c .before) .within .counted, kept (c .before) .within .behind, kept (c .before) .within .ends)
+shared-slice-read-count c = omega (arith, shown (c .before) .kept .within .counted, shown (c .before) .kept .within .behind, shown (c .before) .kept .within .ends)
 
 mul-to : tie.Need-mul-to
-mul-to c = let k = kept (c .before .before) in omega (arith, stretch-ends _ _ k, k .within .ends)
+mul-to c = let k = shown (c .before .before) .kept in omega (arith, stretch-ends _ _ k, k .within .ends)
 
 add-to : tie.Need-add-to
-add-to c = let k = kept (c .before .before) in omega (arith, stretch-ends _ _ k, k .within .ends)
+add-to c = let k = shown (c .before .before) .kept in omega (arith, stretch-ends _ _ k, k .within .ends)
 
 mul-result : tie.Need-mul-result
-mul-result c = let k = kept (c .before .before) in omega (arith, stretch-ends _ _ k, k .within .ends)
+mul-result c = let k = shown (c .before .before) .kept in omega (arith, stretch-ends _ _ k, k .within .ends)
 
 sub-result : tie.Need-sub-result
 sub-result c = search needs
@@ -81,11 +108,13 @@ part-result-start : tie.Need-part-result-start
 part-result-start c = search needs
 
 part-result-end : tie.Need-part-result-end
-part-result-end c = let k = kept (c .before .before) in omega (arith, stretch-ends _ _ k, k .within .ends)
+part-result-end c = let k = shown (c .before .before) .kept in omega (arith, stretch-ends _ _ k, k .within .ends)
 
 returns-5 : tie.Need-returns-5
 unfolding part
-returns-5 c = show-rows _ _ _ _ (c .before .before .before .before .before .before .before .before .before .before .before .before .check .ensures) (c .before .before .before .before .before .before .before .before .before .enum-told .given .1) (c .before .before .before .before .before .before .before .if1 .left) (c .before .before .before .before .before .before .if2 .left) _ (c .before .before .before .before .before .is-sound .ensures) (not-false _ (c .before .before .before .before .if3 .left)) _ (c .before .before .before .part-of .ensures)
+returns-5 c =
+    let x = shown (c .before .before .before) in
+    rows-back (x .place) refl (x .rows)
 
 pub show-spec : {M : Type 1} → statement M
 show-spec =
