@@ -1,55 +1,122 @@
--- The demands of the running code, each by one step from its contract to the theorem of the definitions.
+-- The demands of the running code: a call's contract says that it ran as document 01's definition, of which the demands are proved.
 -- Assumes nothing.
-use Prim.Native.Nat.{ℕ}
-use mathlib.Core.Path.{_≡_, refl, sym, ap, _∙_, subst}
+use Prim.Native.Nat.{ℕ, _<_}
+use mathlib.Core.Path.{_≡_, sym, ap, ap₂, _∙_, subst}
+use mathlib.Core.Bool.{cond}
+use mathlib.Core.Logic.{inl, inr}
 use mathlib.Core.List.{List, [], _∷_, map}
+use native.Mathlib.Omega.{arith}
+use lib.Dec.{eqb}
+use lib.ListN.{length}
 use Rattle.lists.specs.Lists.{Words}
 use Rattle.meaning.specs.Answers.{Outcome}
-use Rattle.meaning.specs.Sheet.{sheetOf}
-use Rattle.meaning.specs.Plan.{noPlan, plan}
+use Rattle.meaning.specs.Sheet.{sheetOf, sheetRefusal}
+use Rattle.meaning.specs.Plan.{TablePlan, Plan, tablePlan, goodPlan, noPlan, plan}
 use Rattle.meaning.specs.Base.{Tables, Change, baseOf}
 use Rattle.meaning.specs.Store.{Stretch, rowsAt, show}
 use Rattle.meaning.specs.Change.{change}
 use Rattle.meaning.specs.Fill.{fill}
-use Rattle.meaning.specs.Demands.{First, sheetTests, changeTests, fillTests, showTests, Answered, Shown, Filled, baseAfter, Right, AllRight, Demand1, Demand2, Demand3}
+use Rattle.meaning.specs.Demands.{changeTests, fillTests, showTests, Answered, Shown, Filled, baseAfter, Right, AllRight}
 use Rattle.store.specs.declared.Answer.{Answer}
-use Rattle.store.specs.Answers.{numberOf, Says}
-use Rattle.store.specs.Shows.{Gives}
+use Rattle.store.specs.Answers.{Says}
+use Rattle.oratjolet.specs.Exports.{Left}
+use Rattle.laws.proofs.Numbers.{plan-number}
 use Rattle.plans.specs.declared.PlanAnswer.{PlanAnswer}
-use Rattle.plans.specs.Answers.{laid}
+use Rattle.plans.specs.Answers.{tableNo, laid}
+use Rattle.plans.proofs.Laid.{table-in, tables-many}
+use Rattle.plans.proofs.Sets.{plan-told}
 use Rattle.upkeep.proofs.First.{demand1}
 use Rattle.upkeep.proofs.Second.{demand2}
 use Rattle.upkeep.proofs.Third.{demand3}
-use Rattle.running.specs.Running.{outcomeOf, Running1, Running2, Call, Ran, tablesAfter, Kept, AllKept, Running3}
+use Rattle.running.proofs.Texts.{prints}
+use Rattle.running.specs.Calls.{outcomeOf, PlanCall, ShowCall, FillCall, ChangeCall, Ran, changed, filled, showed, plannedSheet, Answers}
+use Rattle.running.specs.Running.{AnsweredPlan, Line, DerivedPlan, tablesAfter, Kept, AllKept, Follow, Running1, Running2, Running3}
 
--- an answer that says an outcome is that outcome
-pub said : (o : Outcome) (a : Answer) (exit : Words) → Says o a exit → o ≡ outcomeOf a exit
+-- a call ran as the definition says
+abbrev As : {A O : Type 0} → (Words → Words → A → O) → Ran A O → Type 0
+As f r = f (r .sheet) (r .store) (r .asked) ≡ r .outcome
+
+said : (o : Outcome) (a : Answer) (exit : Words) → Says o a exit → o ≡ outcomeOf a exit
 said o a exit h = λ i. record { number = sym (h .number) i; taken = sym (h .taken) i; added = sym (h .added) i; words = sym (h .words) i }
 
-given : (sheet store : Words) (part : ℕ) (words : Words) (number : ℕ) → Gives sheet store part words number
-    → show sheet store part ≡ record { number = number; words = words }
-given sheet store part words number h = λ i. record { number = sym (h .number-is) i; words = sym (h .words-are) i }
+left : (o : Outcome) (number taken added : ℕ) (exit : Words) → Left o number taken added exit → o ≡ record { number = number; taken = taken; added = added; words = exit }
+left o number taken added exit h = λ i. record { number = sym (h .number-is) i; taken = sym (h .taken-is) i; added = sym (h .added-is) i; words = sym (h .words-are) i }
 
-plan-number : (sheet : Words) (a : PlanAnswer) → a ≡ laid (plan sheet) → a .number ≡ plan sheet .number
+pub as-change : (k : ChangeCall) → As change (changed k)
+as-change (inl k) = said _ _ _ (k .promise)
+as-change (inr k) = left _ _ _ _ _ (k .promise)
+
+pub as-fill : (k : FillCall) → As fill (filled k)
+as-fill (inl k) = said _ _ _ (k .promise)
+as-fill (inr k) = left _ _ _ _ _ (k .promise)
+
+pub as-show : (k : ShowCall) → As show (showed k)
+as-show (inl k) = let h = k .promise .gives in λ i. record { number = sym (h .number-is) i; words = sym (h .words-are) i }
+as-show (inr k) = let h = k .promise in λ i. record { number = sym (h .number-is) i; words = sym (h .words-are) i }
+
+pub as-plan : (k : PlanCall) → Answers k (laid (plan (plannedSheet k)))
 unfolding laid
-plan-number sheet a e = ap (λ (a : PlanAnswer). a .number) e
+as-plan (inl k) = k .promise
+as-plan (inr k) = (k .promise .number-is, k .promise .words-are)
+
+answered-plan : (sheet : Words) → AnsweredPlan sheet (laid (plan sheet))
+unfolding laid
+answered-plan sheet = record { number = demand1 .plans sheet .number; fields = λ d. ap laid (demand1 .plans sheet .fields d) }
 
 pub running1 : Running1
 running1 =
     record {
-      changes = λ sheet store c a exit h. subst (λ (o : Outcome). Answered (changeTests sheet store c) store o) (said (change sheet store c) a exit h) (demand1 .changes sheet store c);
-      fills = λ sheet store run a exit h. subst (λ (o : Outcome). Answered (fillTests sheet store run) store o) (said (fill sheet store run) a exit h) (demand1 .fills sheet store run);
-      shows = λ sheet store part words number h. subst (λ (o : Stretch). Shown (showTests sheet store part) o) (given sheet store part words number h) (demand1 .shows sheet store part);
-      plan-number = λ sheet a e. subst (λ (k : ℕ). First (sheetTests sheet) k) (sym (plan-number sheet a e)) (demand1 .plans sheet .number);
-      plan-fields = λ sheet a e d.
-          e ∙ ap laid (demand1 .plans sheet .fields (λ z. d (plan-number sheet a e ∙ z)) ∙ ap noPlan (sym (plan-number sheet a e)));
+      take-any = record { plans = (λ κs a. tt, λ κs a. tt); shows = (λ κs a. tt, λ κs a. tt); fills = (λ κs a. tt, λ κs a. tt); changes = (λ κs a. tt, λ κs a. tt) };
+      texts-take-any = (λ κs a. tt, λ κs a. tt, λ κs a. tt);
+      changes = λ k.
+          let r = changed k in
+          subst (λ (o : Outcome). Answered (changeTests (r .sheet) (r .store) (r .asked)) (r .store) o) (as-change k) (demand1 .changes (r .sheet) (r .store) (r .asked));
+      fills = λ k.
+          let r = filled k in
+          subst (λ (o : Outcome). Answered (fillTests (r .sheet) (r .store) (r .asked)) (r .store) o) (as-fill k) (demand1 .fills (r .sheet) (r .store) (r .asked));
+      shows = λ k.
+          let r = showed k in
+          subst (λ (o : Stretch). Shown (showTests (r .sheet) (r .store) (r .asked)) o) (as-show k) (demand1 .shows (r .sheet) (r .store) (r .asked));
+      plans = λ k. (laid (plan (plannedSheet k)), as-plan k, answered-plan (plannedSheet k));
     }
+
+-- the plan of a good sheet
+module _ (sheet : Words) (good : sheetRefusal sheet ≡ 0) where
+  is-good : plan sheet ≡ goodPlan (sheetOf sheet)
+  unfolding plan
+  is-good = ap (λ (k : ℕ). cond (eqb k 0) (goodPlan (sheetOf sheet)) (noPlan k)) good
+
+  many : length (plan sheet .tables) ≡ sheetOf sheet .n
+  many = ap (λ (p : Plan). length (p .tables)) is-good ∙ tables-many (sheetOf sheet)
+
+  line-of : (t : ℕ) → t < sheetOf sheet .n → Line (sheetOf sheet) (laid (plan sheet)) t
+  unfolding tablePlan
+  line-of t h =
+      let told = plan-told sheet t (omega (arith, many)) in
+      let is : tableNo (plan sheet) t ≡ tablePlan (sheetOf sheet) t = ap (λ (p : Plan). tableNo p t) is-good ∙ table-in (sheetOf sheet) t h in
+      record {
+        kept-is = told .kept-is ∙ ap (λ (p : TablePlan). p .kept) is;
+        columns-are = told .columns-are ∙ ap (λ (p : TablePlan). p .columns) is;
+        dep-is = told .dep-is ∙ ap (λ (p : TablePlan). p .dep) is;
+        need-is = told .need-is ∙ ap (λ (p : TablePlan). p .need) is;
+      }
+
+  derived-plan : DerivedPlan (sheetOf sheet) (laid (plan sheet))
+  unfolding laid
+  derived-plan = record { derived = demand2 .derived sheet good; tables = many; lines = line-of }
+
+good-if : (sheet : Words) → laid (plan sheet) .number ≡ 0 → sheetRefusal sheet ≡ 0
+unfolding laid
+good-if sheet e = sym (plan-number sheet) ∙ e
 
 pub running2 : Running2
 running2 =
     record {
-      fills = λ sheet store run a exit h good long lawful room.
-          subst (λ (o : Outcome). Filled sheet run o) (said (fill sheet store run) a exit h) (demand2 .fills sheet store run good long lawful room);
+      plans = λ k. let sheet = plannedSheet k in (laid (plan sheet), as-plan k, λ e. derived-plan sheet (good-if sheet e));
+      prints = prints;
+      fills = λ k good long lawful room.
+          let r = filled k in
+          subst (λ (o : Outcome). Filled (r .sheet) (r .asked) o) (as-fill k) (demand2 .fills (r .sheet) (r .store) (r .asked) good long lawful room);
     }
 
 -- one call
@@ -57,35 +124,41 @@ kept : (sheet : Words) (base : Tables) (store : Words) (c : Change) → Right sh
 unfolding tablesAfter baseAfter
 kept sheet base store c h = record { words = h .words; taken = h .taken; added = h .added; only-room = h .only-room }
 
-after-same : (sheet : Words) (base : Tables) (store : Words) (c : Change) (number : ℕ) → change sheet store c .number ≡ number → baseAfter sheet base store c ≡ tablesAfter base c number
+after-same : (sheet : Words) (base : Tables) (store : Words) (c : Change) (o : Outcome) → change sheet store c ≡ o → baseAfter sheet base store c ≡ tablesAfter base c (o .number)
 unfolding tablesAfter baseAfter
-after-same sheet base store c number e = ap (tablesAfter base c) e
+after-same sheet base store c o e = ap (λ (o : Outcome). tablesAfter base c (o .number)) e
 
-asks : List Call → List Change
-asks calls = map (λ (k : Call). k .asked) calls
+asks : List ChangeCall → List Change
+asks calls = map (λ (k : ChangeCall). changed k .asked) calls
 
 -- a sequence of them
-all-kept : (sheet : Words) (calls : List Call) (base : Tables) (store : Words) → Ran sheet store calls → AllRight sheet base store (asks calls) → AllKept sheet base calls
+all-kept : (sheet : Words) (calls : List ChangeCall) (base : Tables) (store : Words) → Follow sheet store calls → AllRight sheet base store (asks calls) → AllKept sheet base calls
 unfolding asks
-all-kept sheet [] base store ran right = tt
-all-kept sheet (k ∷ ks) base store ran right =
+all-kept sheet [] base store follow right = tt
+all-kept sheet (k ∷ ks) base store (on-sheet, on-store, follow) right =
     λ lawful-if.
-    let c = k .asked in
-    let is = said (change sheet store c) (k .answer) (k .exit) (ran .0) in
-    let both = right (λ e. lawful-if (ran .0 .number ∙ e)) in
-    let later : AllRight sheet (tablesAfter base c (numberOf (k .answer))) (k .exit) (asks ks) =
-    subst (λ (w : Words). AllRight sheet (tablesAfter base c (numberOf (k .answer))) w (asks ks)) (sym (ran .0 .words))
-    (subst (λ (b : Tables). AllRight sheet b (change sheet store c .words) (asks ks)) (after-same sheet base store c (numberOf (k .answer)) (sym (ran .0 .number))) (both .1)) in (
+    let r = changed k in
+    let c = r .asked in
+    let is : change sheet store c ≡ r .outcome = ap₂ (λ (x y : Words). change x y c) (sym on-sheet) (sym on-store) ∙ as-change k in
+    let both = right (λ e. lawful-if (sym (ap (λ (o : Outcome). o .number) is) ∙ e)) in
+    let after = tablesAfter base c (r .outcome .number) in
+    let later : AllRight sheet after (r .outcome .words) (asks ks) =
+    subst (λ (o : Outcome). AllRight sheet after (o .words) (asks ks)) is
+    (subst (λ (b : Tables). AllRight sheet b (change sheet store c .words) (asks ks)) (after-same sheet base store c (r .outcome) is) (both .1)) in (
       subst (λ (o : Outcome). Kept sheet base c o) is (kept sheet base store c (both .0)),
-      all-kept sheet ks (tablesAfter base c (numberOf (k .answer))) (k .exit) (ran .1) later,
+      all-kept sheet ks after (r .outcome .words) follow later,
     )
 
 pub running3 : Running3
 running3 =
     record {
-      right = λ sheet store run a exit h done calls ran.
-          all-kept sheet calls (baseOf (sheetOf sheet) run) exit ran
-          (subst (λ (w : Words). AllRight sheet (baseOf (sheetOf sheet) run) w (asks calls)) (sym (h .words))
-          (demand3 .right sheet store run (sym (h .number) ∙ done) (asks calls)));
-      others-stay = λ sheet store c a exit h t l d. ap (λ (w : Words). rowsAt (sheetOf sheet) w t) (h .words) ∙ demand3 .others-stay sheet store c t l d;
+      right = λ f done calls follow.
+          let r = filled f in
+          let is = as-fill f in
+          all-kept (r .sheet) calls (baseOf (sheetOf (r .sheet)) (r .asked)) (r .outcome .words) follow
+          (subst (λ (o : Outcome). AllRight (r .sheet) (baseOf (sheetOf (r .sheet)) (r .asked)) (o .words) (asks calls)) is
+          (demand3 .right (r .sheet) (r .store) (r .asked) (ap (λ (o : Outcome). o .number) is ∙ done) (asks calls)));
+      others-stay = λ k t l d.
+          let r = changed k in
+          ap (λ (o : Outcome). rowsAt (sheetOf (r .sheet)) (o .words) t) (sym (as-change k)) ∙ demand3 .others-stay (r .sheet) (r .store) (r .asked) t l d;
     }

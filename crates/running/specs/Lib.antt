@@ -1,1 +1,4 @@
+pub mod Calls
+pub mod Texts
 pub mod Running
+pub mod Worked

@@ -1,58 +1,77 @@
--- The three demands of the code that runs. All that is known of a call is its contract: its answer and the words that it leaves say the definition's outcome.
+-- The three demands of the code that runs.
 -- Assumes nothing.
 use Prim.Native.Nat.{ℕ, _<_}
 use mathlib.Core.Path.{_≡_}
 use mathlib.Core.Bool.{cond}
 use mathlib.Core.List.{List, [], _∷_}
 use lib.Dec.{T, eqb}
-use lib.ListN.{length}
+use lib.ListN.{length, getD}
 use Rattle.lists.specs.Lists.{Words}
+use Rattle.lists.specs.Totals.{one}
 use Rattle.meaning.specs.Answers.{Outcome}
-use Rattle.meaning.specs.Sheet.{sheetOf, sheetRefusal}
-use Rattle.meaning.specs.Plan.{storeLength, noPlan, plan}
+use Rattle.meaning.specs.Sheet.{Sheet, sheetOf, sheetRefusal}
+use Rattle.meaning.specs.Plan.{kept, shown, dep, need, inOrder, storeLength, noPlan}
 use Rattle.meaning.specs.Base.{Tables, Change, baseOf, goodBase, lawfulChange, changed}
 use Rattle.meaning.specs.Meaning.{meaning}
-use Rattle.meaning.specs.Store.{storeOf, rowsAt, fits}
-use Rattle.meaning.specs.Change.{change}
-use Rattle.meaning.specs.Fill.{fill}
-use Rattle.meaning.specs.Demands.{Refused, First, sheetTests, changeTests, fillTests, showTests, Answered, Shown, Filled, waysOf, outgrows}
-use Rattle.store.specs.declared.Answer.{Answer}
-use Rattle.store.specs.Answers.{numberOf, takenOf, addedOf, Says}
-use Rattle.store.specs.Shows.{Gives}
+use Rattle.meaning.specs.Store.{Stretch, storeOf, rowsAt, fits}
+use Rattle.meaning.specs.Demands.{Refused, First, sheetTests, changeTests, fillTests, showTests, Answered, Shown, Derived, Filled, waysOf, outgrows}
+use Rattle.layout.specs.Marks.{markedIn}
 use Rattle.plans.specs.declared.PlanAnswer.{PlanAnswer}
 use Rattle.plans.specs.Answers.{laid}
+use Rattle.running.specs.Calls.{PlanCall, ShowCall, FillCall, ChangeCall, AllTakeAny, Ran, showed, filled, plannedSheet, Answers}
+use Rattle.running.specs.Calls as Calls
+use Rattle.running.specs.Texts.{NewCall, ChunkCall, ReplyCall, TextsTakeAny, Read, textOf, Printed}
 
--- what an answer says with the words that the call left in the store
-abbrev pub outcomeOf : Answer → Words → Outcome
-outcomeOf a exit = record { number = numberOf a; taken = takenOf a; added = addedOf a; words = exit }
+-- Demand 1: what each call owes on any input
+abbrev pub AnsweredChange : Ran Change Outcome → Type 0
+AnsweredChange r = Answered (changeTests (r .sheet) (r .store) (r .asked)) (r .store) (r .outcome)
 
--- Demand 1, of each call
+abbrev pub AnsweredFill : Ran Words Outcome → Type 0
+AnsweredFill r = Answered (fillTests (r .sheet) (r .store) (r .asked)) (r .store) (r .outcome)
+
+abbrev pub AnsweredShow : Ran ℕ Stretch → Type 0
+AnsweredShow r = Shown (showTests (r .sheet) (r .store) (r .asked)) (r .outcome)
+
+pub record AnsweredPlan (sheet : Words) (a : PlanAnswer) : Type 0 where
+  pub number : First (sheetTests sheet) (a .number)
+  pub fields : Refused (a .number) → a ≡ laid (noPlan (a .number))
+
 pub record Running1 : Type 0 where
-  pub changes : (sheet store : Words) (c : Change) (a : Answer) (exit : Words) → Says (change sheet store c) a exit
-      → Answered (changeTests sheet store c) store (outcomeOf a exit)
-  pub fills : (sheet store run : Words) (a : Answer) (exit : Words) → Says (fill sheet store run) a exit
-      → Answered (fillTests sheet store run) store (outcomeOf a exit)
-  pub shows : (sheet store : Words) (part : ℕ) (words : Words) (number : ℕ) → Gives sheet store part words number
-      → Shown (showTests sheet store part) (record { number = number; words = words })
-  pub plan-number : (sheet : Words) (a : PlanAnswer) → a ≡ laid (plan sheet) → First (sheetTests sheet) (a .number)
-  pub plan-fields : (sheet : Words) (a : PlanAnswer) → a ≡ laid (plan sheet) → Refused (a .number) → a ≡ laid (noPlan (a .number))
+  pub take-any : AllTakeAny
+  pub texts-take-any : TextsTakeAny
+  pub changes : (k : ChangeCall) → AnsweredChange (Calls.changed k)
+  pub fills : (k : FillCall) → AnsweredFill (filled k)
+  pub shows : (k : ShowCall) → AnsweredShow (showed k)
+  pub plans : (k : PlanCall) → (a : PlanAnswer) × Answers k a × AnsweredPlan (plannedSheet k) a
 
--- Demand 2, of a fill
+-- Demand 2: the plan's answer has the side tables and the sets that Algorithm 3.1 derives
+pub record Line (s : Sheet) (a : PlanAnswer) (t : ℕ) : Type 0 where
+  pub kept-is : getD (a .kept) t 0 ≡ one (kept s t)
+  pub columns-are : markedIn (a .columns) t ≡ cond (kept s t) (shown s t) []
+  pub dep-is : markedIn (a .dep) t ≡ inOrder s (dep s t)
+  pub need-is : markedIn (a .need) t ≡ inOrder s (need s t)
+
+pub record DerivedPlan (s : Sheet) (a : PlanAnswer) : Type 0 where
+  pub derived : Derived s
+  pub tables : a .tables ≡ s .n
+  pub lines : (t : ℕ) → t < s .n → Line s a t
+
 pub record Running2 : Type 0 where
-  pub fills : (sheet store run : Words) (a : Answer) (exit : Words) → Says (fill sheet store run) a exit → sheetRefusal sheet ≡ 0
-      → length store ≡ storeLength (sheetOf sheet) → T (goodBase (sheetOf sheet) run)
-      → T (fits (sheetOf sheet) (meaning (sheetOf sheet) (baseOf (sheetOf sheet) run))) → Filled sheet run (outcomeOf a exit)
+  pub plans : (k : PlanCall) → (a : PlanAnswer) × Answers k a × (a .number ≡ 0 → DerivedPlan (sheetOf (plannedSheet k)) a)
+  -- the plan that the program prints, however its text came in
+  pub prints : (k : NewCall) (chunks : List ChunkCall) (end : ReplyCall) → Read (k .result) chunks end → Printed (textOf chunks) end
+  pub fills : (k : FillCall)
+      → let r = filled k in
+      let s = sheetOf (r .sheet) in
+      sheetRefusal (r .sheet) ≡ 0 → length (r .store) ≡ storeLength s → T (goodBase s (r .asked))
+      → T (fits s (meaning s (baseOf s (r .asked)))) → Filled (r .sheet) (r .asked) (r .outcome)
 
--- Demand 3. A change call as it ran: what was asked, what it answered, and the words that it left
-pub record Call : Type 0 where
-  pub asked : Change
-  pub answer : Answer
-  pub exit : Words
-
--- each call met its contract, on the words that the one before it left
-abbrev pub Ran : Words → Words → List Call → Type 0
-Ran sheet store [] = Unit {0}
-Ran sheet store (k ∷ ks) = Says (change sheet store (k .asked)) (k .answer) (k .exit) × Ran sheet (k .exit) ks
+-- Demand 3. Each call was made on this sheet, and on the words that the one before it left
+abbrev pub Follow : Words → Words → List ChangeCall → Type 0
+Follow sheet store [] = Unit {0}
+Follow sheet store (k ∷ ks) =
+    let r = Calls.changed k in
+    (r .sheet ≡ sheet) × (r .store ≡ store) × Follow sheet (r .outcome .words) ks
 
 -- the base tables after a call: the change is made if the call accepted it
 unfoldable pub tablesAfter : Tables → Change → ℕ → Tables
@@ -67,14 +86,19 @@ pub record Kept (sheet : Words) (base : Tables) (c : Change) (o : Outcome) : Typ
       → (o .number ≡ 9) × T (outgrows (sheetOf sheet) (changed base c) (c .table))
 
 -- "after any sequence of change calls where each accepted change is lawful"
-abbrev pub AllKept : Words → Tables → List Call → Type 0
+abbrev pub AllKept : Words → Tables → List ChangeCall → Type 0
 AllKept sheet base [] = Unit {0}
 AllKept sheet base (k ∷ ks) =
-    (numberOf (k .answer) ≡ 0 → T (lawfulChange (sheetOf sheet) base (k .asked)))
-    → Kept sheet base (k .asked) (outcomeOf (k .answer) (k .exit)) × AllKept sheet (tablesAfter base (k .asked) (numberOf (k .answer))) ks
+    let r = Calls.changed k in
+    (r .outcome .number ≡ 0 → T (lawfulChange (sheetOf sheet) base (r .asked)))
+    → Kept sheet base (r .asked) (r .outcome) × AllKept sheet (tablesAfter base (r .asked) (r .outcome .number)) ks
 
 pub record Running3 : Type 0 where
-  pub right : (sheet store run : Words) (a : Answer) (exit : Words) → Says (fill sheet store run) a exit → numberOf a ≡ 0 → (calls : List Call)
-      → Ran sheet exit calls → AllKept sheet (baseOf (sheetOf sheet) run) calls
-  pub others-stay : (sheet store : Words) (c : Change) (a : Answer) (exit : Words) → Says (change sheet store c) a exit → (t : ℕ)
-      → t < sheetOf sheet .n → (t ≡ c .table → ⊥) → rowsAt (sheetOf sheet) exit t ≡ rowsAt (sheetOf sheet) store t
+  pub right : (f : FillCall)
+      → let r = filled f in
+      r .outcome .number ≡ 0 → (calls : List ChangeCall) → Follow (r .sheet) (r .outcome .words) calls
+      → AllKept (r .sheet) (baseOf (sheetOf (r .sheet)) (r .asked)) calls
+  pub others-stay : (k : ChangeCall)
+      → let r = Calls.changed k in
+      (t : ℕ) → t < sheetOf (r .sheet) .n → (t ≡ r .asked .table → ⊥)
+      → rowsAt (sheetOf (r .sheet)) (r .outcome .words) t ≡ rowsAt (sheetOf (r .sheet)) (r .store) t
