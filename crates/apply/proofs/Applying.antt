@@ -7,11 +7,11 @@ use mathlib.Core.List.{[], _∷_}
 use native.Mathlib.Omega.{arith}
 use lib.Dec.{T, ltb, eqb, ltb→lt}
 use lib.ListN.{length}
-use Rattle.lists.specs.Lists.{Words, at}
+use Rattle.lists.specs.Lists.{Words}
 use Rattle.lists.proofs.Truth.{isT, eqb→≡, and-fst, and-snd}
 use Rattle.rows.specs.Rows.{Row, key}
 use Rattle.meaning.specs.Answers.{refused}
-use Rattle.meaning.specs.Sheet.{Sheet, width, sheetOf}
+use Rattle.meaning.specs.Sheet.{Sheet, width, sheetOf, tableCount}
 use Rattle.meaning.specs.Base.{Change, goodChange, hasWidth, tiedStay}
 use Rattle.meaning.specs.Store.{storeOf, modelOf, sound, fits}
 use Rattle.meaning.specs.Change.{agrees, modelAfter, accepted}
@@ -19,7 +19,7 @@ use Rattle.laws.proofs.Lists.{facts}
 use Rattle.laws.proofs.Sheets.{Good}
 use Rattle.laws.proofs.Changes.{made, after-sound}
 use Rattle.walks.proofs.Updates.{Tied, tied-get}
-use Rattle.words.proofs.Words.{n-is}
+use Rattle.sheet.proofs.Words.{n-is}
 use Rattle.sheet.specs.declared.Verdict.the-variants as Verdicts
 use Rattle.kinds.specs.Asked.{changeOf, askedOf}
 use Rattle.kinds.proofs.Tests.{asked-good, no-kind}
@@ -34,7 +34,7 @@ use Rattle.apply.specs.Applies.{Applies}
 
 -- The row of an insert, of a delete, the rows of an update
 module _ (ws : Words) (t : ℕ) (r r′ : Row) where
-  inside : (b : Bool) → T (ltb t (sheetOf ws .n) && b) → t < at ws 0
+  inside : (b : Bool) → T (ltb t (sheetOf ws .n) && b) → t < tableCount ws
   inside b h = subst (λ (n : ℕ). t < n) (n-is ws) (ltb→lt t (sheetOf ws .n) (and-fst (ltb t (sheetOf ws .n)) b h))
 
   pub insert-lent : askedOf ws (made 1 t r r′) ≡ Verdicts.Good → Lent ws t r′

@@ -15,6 +15,7 @@ use Rattle.rows.specs.Rows.{Row, Rows, cut}
 use Rattle.rows.specs.Words.{row, written}
 use Rattle.rows.proofs.Cut.{Wide, wide-first, wide-rest, wide-cons, wide-cut, length-flat, cut-length, row-length}
 use Rattle.rows.proofs.Marks.{flat-append, cut-snoc}
+use Rattle.meaning.specs.Sheet.{listedCount}
 use Rattle.walks.specs.Marks.{altered, isMarked}
 use Rattle.walks.proofs.Marks.{length-altered}
 use Rattle.columns.specs.Gives.{gives, given}
@@ -52,45 +53,45 @@ not-marked marks k e = rw (eq-eqb (at marks k) 0 e)
 
 pub given-start : (ws : Words) (t : ℕ) (r : Row) (marks s : Words) → s ≡ given ws t r marks 0 s
 unfolding given cut altered
-given-start ws t r marks s = rw (zero-mul (at ws 3))
+given-start ws t r marks s = rw (zero-mul (listedCount ws))
 
-module _ (ws : Words) (t : ℕ) (r : Row) (marks s : Words) (k : ℕ) (fits : k * at ws 3 + at ws 3 ≤ length s) where
+module _ (ws : Words) (t : ℕ) (r : Row) (marks s : Words) (k : ℕ) (fits : k * listedCount ws + listedCount ws ≤ length s) where
   front : Words
-  front = flat (altered (isMarked marks) (gives ws t r) (cut (at ws 3) k s))
+  front = flat (altered (isMarked marks) (gives ws t r) (cut (listedCount ws) k s))
 
-  front-long : length front ≡ k * at ws 3
+  front-long : length front ≡ k * listedCount ws
   unfolding front
   front-long =
-      length-flat (at ws 3) (altered (isMarked marks) (gives ws t r) (cut (at ws 3) k s))
-      (wide-altered (at ws 3) (isMarked marks) (gives ws t r) (cut (at ws 3) k s) (λ q e. gives-length ws t r q e) (wide-cut (at ws 3) k s (omega arith)))
-      ∙ ap (λ (n : ℕ). n * at ws 3) (length-altered (isMarked marks) (gives ws t r) (cut (at ws 3) k s) ∙ cut-length (at ws 3) k s)
+      length-flat (listedCount ws) (altered (isMarked marks) (gives ws t r) (cut (listedCount ws) k s))
+      (wide-altered (listedCount ws) (isMarked marks) (gives ws t r) (cut (listedCount ws) k s) (λ q e. gives-length ws t r q e) (wide-cut (listedCount ws) k s (omega arith)))
+      ∙ ap (λ (n : ℕ). n * listedCount ws) (length-altered (isMarked marks) (gives ws t r) (cut (listedCount ws) k s) ∙ cut-length (listedCount ws) k s)
 
   -- with row k given or as it is
   next : (b : Bool) → isMarked marks k ≡ b
-      → given ws t r marks (k + 1) s ≡ front ++ (cond b (gives ws t r (row (at ws 3) k s)) (row (at ws 3) k s) ++ drop (k * at ws 3 + at ws 3) s)
+      → given ws t r marks (k + 1) s ≡ front ++ (cond b (gives ws t r (row (listedCount ws) k s)) (row (listedCount ws) k s) ++ drop (k * listedCount ws + listedCount ws) s)
   unfolding front given
   next b e =
-      let w = at ws 3 in
+      let w = listedCount ws in
       let m : (k + 1) * w ≡ k * w + w = rw add-one (suc-mul k w) in
       rw (m, cut-snoc w k s, altered-last (isMarked marks) (gives ws t r) (cut w k s) (row w k s), cut-length w k s, e, flat-append)
       (ap (λ (l : Words). (front ++ l) ++ drop (k * w + w) s) (flat-one (cond b (gives ws t r (row w k s)) (row w k s))) ∙ append-assoc front _ _)
 
   module _ (x : Words) (inv : x ≡ given ws t r marks k s) where
-    x-is : x ≡ front ++ drop (k * at ws 3) s
+    x-is : x ≡ front ++ drop (k * listedCount ws) s
     unfolding front given
     x-is = inv
 
-    pub row-still : row (at ws 3) k x ≡ row (at ws 3) k s
-    row-still = rw (x-is, drop-at front (drop (k * at ws 3) s) (k * at ws 3) front-long)
+    pub row-still : row (listedCount ws) k x ≡ row (listedCount ws) k s
+    row-still = rw (x-is, drop-at front (drop (k * listedCount ws) s) (k * listedCount ws) front-long)
 
     pub given-stay : isMarked marks k ≡ false → x ≡ given ws t r marks (k + 1) s
     given-stay e =
-        x-is ∙ ap (λ (l : Words). front ++ l) (sym (take-append-drop (at ws 3) (drop (k * at ws 3) s)) ∙ ap (λ (l : Words). row (at ws 3) k s ++ l) (drop-drop (at ws 3) (k * at ws 3) s)) ∙ sym (next false e)
+        x-is ∙ ap (λ (l : Words). front ++ l) (sym (take-append-drop (listedCount ws) (drop (k * listedCount ws) s)) ∙ ap (λ (l : Words). row (listedCount ws) k s ++ l) (drop-drop (listedCount ws) (k * listedCount ws) s)) ∙ sym (next false e)
 
-    pub given-more : (y : Words) → isMarked marks k ≡ true → y ≡ written x (k * at ws 3) (gives ws t r (row (at ws 3) k x)) (at ws 3) → y ≡ given ws t r marks (k + 1) s
+    pub given-more : (y : Words) → isMarked marks k ≡ true → y ≡ written x (k * listedCount ws) (gives ws t r (row (listedCount ws) k x)) (listedCount ws) → y ≡ given ws t r marks (k + 1) s
     unfolding written
     given-more y e ey =
-        let w = at ws 3 in
+        let w = listedCount ws in
         let v = gives ws t r (row w k s) in
         let tk : take (k * w) x ≡ front = rw (x-is, take-at front (drop (k * w) s) (k * w) front-long) in
         let dr : drop (k * w + w) x ≡ drop (k * w + w) s = rw (← drop-drop w (k * w) x, x-is, drop-at front (drop (k * w) s) (k * w) front-long, drop-drop w (k * w) s) in

@@ -8,9 +8,9 @@ use lib.Dec.{eqb}
 use lib.ListN.{length, drop}
 use Rattle.lists.specs.Lists.{Words, at, flat}
 use Rattle.rows.specs.Rows.{Row, sameRow, cut}
-use Rattle.meaning.specs.Sheet.{sheetOf}
+use Rattle.meaning.specs.Sheet.{sheetOf, tableCount, listedCount}
 use Rattle.meaning.specs.Change.{withColumns}
-use Rattle.words.specs.Numbered.{widthNo}
+use Rattle.sheet.specs.Numbered.{widthNo}
 use Rattle.walks.specs.Marks.{altered, isMarked}
 
 -- the list row with r's values in table t's columns
@@ -27,9 +27,9 @@ showsAt ws t r row j = eqb (at row j) (at (gives ws t r row) j)
 
 -- the first n rows of a run, those that are marked with r's values, and the words behind them
 unfoldable pub given : Words → ℕ → Row → Words → ℕ → Words → Words
-given ws t r marks n s = flat (altered (isMarked marks) (gives ws t r) (cut (at ws 3) n s)) ++ drop (n * at ws 3) s
+given ws t r marks n s = flat (altered (isMarked marks) (gives ws t r) (cut (listedCount ws) n s)) ++ drop (n * listedCount ws) s
 
 -- r is a row for table t
 pub record Fits (ws : Words) (t : ℕ) (r : Row) : Type 0 where
-  pub table : t < at ws 0
+  pub table : t < tableCount ws
   pub wide : length r ≡ widthNo ws t

@@ -15,12 +15,12 @@ use Rattle.lists.specs.Loops.{every, some, first}
 use Rattle.lists.proofs.Loops.{and-true}
 use Rattle.lists.proofs.Truth.{Mem, T→≡, F→≡, same-test, mem-map, mem-upTo, select-mem, member→Mem, Mem→member, eq→eqb, eqb→≡}
 use Rattle.laws.proofs.Lists.{any-select}
-use Rattle.meaning.specs.Sheet.{Edge, Sheet, sheetOf, goesInto, leaves, edgesInto, isRoot}
+use Rattle.meaning.specs.Sheet.{Edge, Sheet, sheetOf, goesInto, leaves, edgesInto, isRoot, tableCount, edgeCount, listedCount}
 use Rattle.meaning.specs.Plan.{root, edgeInto, others, isPromised, depPlus, depPlusIn, isListed, names, need, needIn, kept, isShown}
-use Rattle.words.specs.Numbered.{edgeNo, listingNo}
-use Rattle.words.specs.Tests.{listingNames}
-use Rattle.words.proofs.Numbers.{member-chosen, any-up, all-upTo, any-upTo, found, not-found, first-passes}
-use Rattle.words.proofs.Words.{n-is, edges-are, listed-are}
+use Rattle.sheet.specs.Numbered.{edgeNo, listingNo}
+use Rattle.sheet.specs.Tests.{listingNames}
+use Rattle.sheet.proofs.Numbers.{member-chosen, any-up, all-upTo, any-upTo, found, not-found, first-passes}
+use Rattle.sheet.proofs.Words.{n-is, edges-are, listed-are}
 use Rattle.sheet.specs.Tree.{goesNo, Joined, GoodSheet}
 use Rattle.sheet.proofs.Into.{into-none, into-first, into-only}
 use Rattle.derive.specs.Derived.{depNo, needNo, restsOn, neededBy, keptNo, leavesBy, shownNo}
@@ -49,19 +49,19 @@ unfolding depNo
 dep-end ws t u left z = rw z
 
 -- edge i is one of the sheet's
-pub edge-there : (ws : Words) (i : ℕ) → i < at ws 1 → Mem (edgeNo ws i) (sheetOf ws .edges)
-edge-there ws i h = subst (λ (l : List Edge). Mem (edgeNo ws i) l) (sym (edges-are ws)) (mem-map (edgeNo ws) (upTo (at ws 1)) i (mem-upTo (at ws 1) i h))
+pub edge-there : (ws : Words) (i : ℕ) → i < edgeCount ws → Mem (edgeNo ws i) (sheetOf ws .edges)
+edge-there ws i h = subst (λ (l : List Edge). Mem (edgeNo ws i) l) (sym (edges-are ws)) (mem-map (edgeNo ws) (upTo (edgeCount ws)) i (mem-upTo (edgeCount ws) i h))
 
-module _ (ws : Words) (u i : ℕ) (e : i ≡ first (goesNo ws u) (at ws 1)) where
+module _ (ws : Words) (u i : ℕ) (e : i ≡ first (goesNo ws u) (edgeCount ws)) where
   -- the edge found goes into u
-  pub goes-there : i < at ws 1 → edgeNo ws i .parent ≡ u
+  pub goes-there : i < edgeCount ws → edgeNo ws i .parent ≡ u
   unfolding goesNo
-  goes-there h = eqb-true _ _ (rw (← e) at (first-passes (goesNo ws u) (at ws 1) (found _ _ i e h) .1))
+  goes-there h = eqb-true _ _ (rw (← e) at (first-passes (goesNo ws u) (edgeCount ws) (found _ _ i e h) .1))
 
   -- an edge into u is the one found
-  pub the-edge : Joined ws → i < at ws 1 → (x : Edge) → Mem x (sheetOf ws .edges) → x .parent ≡ u → x ≡ edgeNo ws i
+  pub the-edge : Joined ws → i < edgeCount ws → (x : Edge) → Mem x (sheetOf ws .edges) → x .parent ≡ u → x ≡ edgeNo ws i
   the-edge j h x m q =
-      let l : u < at ws 0 = omega (arith, goes-there h, j .rules .edges i h .parent-in) in
+      let l : u < tableCount ws = omega (arith, goes-there h, j .rules .edges i h .parent-in) in
       only (into-only ws u i e (j .one-into u l) h) (select-mem (goesInto u) (sheetOf ws .edges) x m (eq→eqb q))
     where
       only : edgesInto (sheetOf ws) u ≡ edgeNo ws i ∷ [] → Mem x (edgesInto (sheetOf ws) u) → x ≡ edgeNo ws i
@@ -73,7 +73,7 @@ module _ (ws : Words) (u i : ℕ) (e : i ≡ first (goesNo ws u) (at ws 1)) wher
 
   -- Dep+: no edge goes into u, it is not promised, it comes from t, or the walk goes on
   module _ (t : ℕ) where
-    pub dep-none : (left : ℕ) → at ws 1 ≤ i → false ≡ depNo ws left t u
+    pub dep-none : (left : ℕ) → edgeCount ws ≤ i → false ≡ depNo ws left t u
     unfolding depNo
     dep-none zero h = refl
     dep-none (suc left) h = fails (depNo ws (suc left) t u) (λ m. go (last-edge (sheetOf ws) left t u (dep-mem ws (suc left) t u m)))
@@ -81,7 +81,7 @@ module _ (ws : Words) (u i : ℕ) (e : i ≡ first (goesNo ws u) (at ws 1)) wher
         go : LastEdge (sheetOf ws) left t u → ⊥
         go x = subst (λ (l : List Edge). Mem (x .edge) l) (into-none ws u i e h) (select-mem (goesInto u) (sheetOf ws .edges) (x .edge) (x .there) (eq→eqb (x .goes)))
 
-    module _ (j : Joined ws) (h : i < at ws 1) where
+    module _ (j : Joined ws) (h : i < edgeCount ws) where
       pub dep-loose : (left : ℕ) → (edgeNo ws i .promise ≡ 1 → ⊥) → false ≡ depNo ws left t u
       unfolding depNo
       dep-loose zero n = refl
@@ -117,20 +117,20 @@ module _ (ws : Words) (u i : ℕ) (e : i ≡ first (goesNo ws u) (at ws 1)) wher
               go (inr r) = r
 
 -- a column is listed exactly if some listing names it
-pub listed-is : (ws : Words) (t c : ℕ) → isListed (sheetOf ws) t c ≡ some (listingNames ws t c) (at ws 3)
+pub listed-is : (ws : Words) (t c : ℕ) → isListed (sheetOf ws) t c ≡ some (listingNames ws t c) (listedCount ws)
 unfolding listingNames
-listed-is ws t c = ap (any (names t c)) (listed-are ws) ∙ any-up (names t c) (listingNo ws) (at ws 3)
+listed-is ws t c = ap (any (names t c)) (listed-are ws) ∙ any-up (names t c) (listingNo ws) (listedCount ws)
 
 -- the edge into a table, and whether it is the root
-module _ (ws : Words) (t i : ℕ) (e : i ≡ first (goesNo ws t) (at ws 1)) where
-  pub edge-is : i < at ws 1 → edgeInto (sheetOf ws) t ≡ edgeNo ws i
+module _ (ws : Words) (t i : ℕ) (e : i ≡ first (goesNo ws t) (edgeCount ws)) where
+  pub edge-is : i < edgeCount ws → edgeInto (sheetOf ws) t ≡ edgeNo ws i
   unfolding edgeInto
   edge-is h = rw (into-first ws t i e h .1)
 
-  pub root-yes : GoodSheet ws → t < at ws 0 → at ws 1 ≤ i → eqb t (root (sheetOf ws)) ≡ true
+  pub root-yes : GoodSheet ws → t < tableCount ws → edgeCount ws ≤ i → eqb t (root (sheetOf ws)) ≡ true
   root-yes g l h = eq-eqb _ _ (g .one-root t l (eq-eqb (length (edgesInto (sheetOf ws) t)) 0 (ap length (into-none ws t i e h))))
 
-  pub root-no : GoodSheet ws → i < at ws 1 → eqb t (root (sheetOf ws)) ≡ false
+  pub root-no : GoodSheet ws → i < edgeCount ws → eqb t (root (sheetOf ws)) ≡ false
   root-no g h = ne-eqb _ _ (λ q. clash (eqb-true _ _ (subst (λ (r : ℕ). isRoot (sheetOf ws) r ≡ true) (sym q) (g .root-is))))
     where
       clash : length (edgesInto (sheetOf ws) t) ≡ 0 → ⊥
@@ -145,27 +145,27 @@ pub need-end : (ws : Words) (t u left : ℕ) → left ≡ 0 → false ≡ needNo
 unfolding needNo
 need-end ws t u left z = rw z
 
-module _ (ws : Words) (t u l : ℕ) (le : l ≡ first (listingNames ws t 0) (at ws 3)) where
-  pub need-listed : (left : ℕ) → (left ≡ 0 → ⊥) → l < at ws 3 → false ≡ needNo ws left t u
+module _ (ws : Words) (t u l : ℕ) (le : l ≡ first (listingNames ws t 0) (listedCount ws)) where
+  pub need-listed : (left : ℕ) → (left ≡ 0 → ⊥) → l < listedCount ws → false ≡ needNo ws left t u
   unfolding needNo
   need-listed zero z h = absurd (z refl)
   need-listed (suc left) z h = rw (listed-is ws t 0 ∙ found _ _ l le h)
 
   -- otherwise t is the root, or the walk goes to the child of the edge into it
-  module _ (g : GoodSheet ws) (h : t < at ws 0) (unlisted : at ws 3 ≤ l) (i : ℕ) (ie : i ≡ first (goesNo ws t) (at ws 1)) where
-    pub need-root : (left : ℕ) → (left ≡ 0 → ⊥) → at ws 1 ≤ i → (ltb u (at ws 0) && not (eqb u t)) ≡ needNo ws left t u
+  module _ (g : GoodSheet ws) (h : t < tableCount ws) (unlisted : listedCount ws ≤ l) (i : ℕ) (ie : i ≡ first (goesNo ws t) (edgeCount ws)) where
+    pub need-root : (left : ℕ) → (left ≡ 0 → ⊥) → edgeCount ws ≤ i → (ltb u (tableCount ws) && not (eqb u t)) ≡ needNo ws left t u
     unfolding needNo
     need-root zero z r = absurd (z refl)
     need-root (suc left) z r =
         rw (listed-is ws t 0 ∙ not-found _ _ l le unlisted, root-yes ws t i ie g h r, member-others (sheetOf ws) t u, n-is ws)
 
-    pub need-child : (left : ℕ) → (left ≡ 0 → ⊥) → i < at ws 1 → edgeNo ws i .child ≡ u → true ≡ needNo ws left t u
+    pub need-child : (left : ℕ) → (left ≡ 0 → ⊥) → i < edgeCount ws → edgeNo ws i .child ≡ u → true ≡ needNo ws left t u
     unfolding needNo
     need-child zero z r q = absurd (z refl)
     need-child (suc left) z r q =
         rw (listed-is ws t 0 ∙ not-found _ _ l le unlisted, root-no ws t i ie g r, edge-is ws t i ie r, eq-eqb u (edgeNo ws i .child) (sym q))
 
-    pub need-on : (left : ℕ) (b : Bool) → (left ≡ 0 → ⊥) → i < at ws 1 → (edgeNo ws i .child ≡ u → ⊥)
+    pub need-on : (left : ℕ) (b : Bool) → (left ≡ 0 → ⊥) → i < edgeCount ws → (edgeNo ws i .child ≡ u → ⊥)
         → b ≡ needNo ws (left - 1) (edgeNo ws i .child) u → b ≡ needNo ws left t u
     unfolding needNo
     need-on zero b z r q w = absurd (z refl)
@@ -192,7 +192,7 @@ module _ {A : Type 0} where
       go false e = e
 
 -- kept, by number
-pub kept-is : (ws : Words) (t : ℕ) → keptNo ws t ≡ not (every (restsOn ws t) (at ws 0) && not (some (neededBy ws t) (at ws 0)))
+pub kept-is : (ws : Words) (t : ℕ) → keptNo ws t ≡ not (every (restsOn ws t) (tableCount ws) && not (some (neededBy ws t) (tableCount ws)))
 unfolding keptNo kept others restsOn neededBy
 kept-is ws t =
     ap₂ (λ a b. not (a && b))
@@ -208,28 +208,28 @@ module _ (ws : Words) (t u : ℕ) where
   unfolding restsOn
   rests-self q = rw (eq-eqb u t q)
 
-  pub rests-dep : (b : Bool) → (u ≡ t → ⊥) → b ≡ depNo ws (at ws 0) t u → restsOn ws t u ≡ b
+  pub rests-dep : (b : Bool) → (u ≡ t → ⊥) → b ≡ depNo ws (tableCount ws) t u → restsOn ws t u ≡ b
   unfolding restsOn depNo depPlus
   rests-dep b q e = rw (ne-eqb u t q) (ap (λ (k : ℕ). member u (depPlusIn (sheetOf ws) k t)) (n-is ws) ∙ sym e)
 
-  pub needed-is : (b : Bool) → b ≡ needNo ws (at ws 0) u t → neededBy ws t u ≡ b
+  pub needed-is : (b : Bool) → b ≡ needNo ws (tableCount ws) u t → neededBy ws t u ≡ b
   unfolding neededBy needNo need
   needed-is b e = ap (λ (k : ℕ). member t (needIn (sheetOf ws) k u)) (n-is ws) ∙ sym e
 
 module _ (ws : Words) (t : ℕ) where
-  pub kept-free : every (restsOn ws t) (at ws 0) ≡ false → true ≡ keptNo ws t
+  pub kept-free : every (restsOn ws t) (tableCount ws) ≡ false → true ≡ keptNo ws t
   kept-free h = rw (kept-is ws t, h)
 
-  pub kept-needed : (b : Bool) → every (restsOn ws t) (at ws 0) ≡ true → b ≡ some (neededBy ws t) (at ws 0) → b ≡ keptNo ws t
+  pub kept-needed : (b : Bool) → every (restsOn ws t) (tableCount ws) ≡ true → b ≡ some (neededBy ws t) (tableCount ws) → b ≡ keptNo ws t
   kept-needed b h e = rw (kept-is ws t, h, ← e) (sym (Bool·not-not b))
 
 -- shown, by number
-pub shown-is : (ws : Words) (t c : ℕ) → shownNo ws t c ≡ (eqb c 0 || some (leavesBy ws t c) (at ws 1) || some (listingNames ws t c) (at ws 3))
+pub shown-is : (ws : Words) (t c : ℕ) → shownNo ws t c ≡ (eqb c 0 || some (leavesBy ws t c) (edgeCount ws) || some (listingNames ws t c) (listedCount ws))
 unfolding shownNo isShown leavesBy
 shown-is ws t c =
     ap₂ (λ a b. eqb c 0 || a || b)
     (any-select (λ e. eqb (e .column) c) (leaves t) (sheetOf ws .edges) ∙ ap (any (λ e. leaves t e && eqb (e .column) c)) (edges-are ws)
-    ∙ any-up (λ e. leaves t e && eqb (e .column) c) (edgeNo ws) (at ws 1))
+    ∙ any-up (λ e. leaves t e && eqb (e .column) c) (edgeNo ws) (edgeCount ws))
     (listed-is ws t c)
 
 -- edge i leaves table t by column c

@@ -6,7 +6,7 @@ use lib.Dec.{eqb}
 use Rattle.lists.specs.Lists.{Words, member}
 use Rattle.meaning.specs.Sheet.{sheetOf, leaves}
 use Rattle.meaning.specs.Plan.{depPlus, depPlusIn, need, needIn, kept, isShown}
-use Rattle.words.specs.Numbered.{edgeNo}
+use Rattle.sheet.specs.Numbered.{edgeNo}
 
 -- u is in Dep+(t), over paths of at most k edges
 unfoldable pub depNo : Words → ℕ → ℕ → ℕ → Bool

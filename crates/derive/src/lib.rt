@@ -5,9 +5,9 @@ ghost use lib.Dec.{eqb, ltb};
 ghost use Prim.Native.Nat.{ℕ, _<_};
 ghost use Rattle.lists.specs.Lists.{at};
 ghost use Rattle.lists.specs.Loops.{every, some};
-ghost use Rattle.meaning.specs.Sheet.{sheetOf};
+ghost use Rattle.meaning.specs.Sheet.{sheetOf, tableCount, edgeCount};
 ghost use Rattle.meaning.specs.Plan.{root};
-ghost use Rattle.words.specs.Rules.{Counts};
+ghost use Rattle.sheet.specs.Rules.{Counts};
 ghost use Rattle.sheet.specs.Tree.{Joined, GoodSheet};
 ghost use Rattle.derive.specs.Derived.{depNo, needNo, restsOn, neededBy, keptNo, leavesBy, shownNo};
 
@@ -54,14 +54,14 @@ pub fn depends(sheet: &[u64], t: u64, u: u64, left: usize) -> bool
 
 // Whether u is in Need(t), with `left` tables left on the path.
 pub fn needs(sheet: &[u64], t: u64, u: u64, left: usize) -> bool
-    requires { ⌜ GoodSheet (now sheet) × (t < at (now sheet) 0) ⌝ }
+    requires { ⌜ GoodSheet (now sheet) × (t < tableCount (now sheet)) ⌝ }
     ensures { λ b. ⌜ b ≡ needNo (now (sheet .entry)) left t u ⌝ }
 {
     if left == 0 {
         return false;
     }
     let p = sheet[3] as usize;
-    if words::listing_of(sheet, t, 0, p) < p {
+    if sheet::listing_of(sheet, t, 0, p) < p {
         return false;
     }
     let k = sheet::edge_into(sheet, t);
@@ -91,7 +91,7 @@ fn is_other(n: u64, t: u64, u: u64) -> bool
 // Whether Dep+(t) is every other table.
 fn rests_on_all(sheet: &[u64], t: u64) -> bool
     requires { ⌜ Joined (now sheet) ⌝ }
-    ensures { λ b. ⌜ b ≡ every (restsOn (now (sheet .entry)) t) (at (now (sheet .entry)) 0) ⌝ }
+    ensures { λ b. ⌜ b ≡ every (restsOn (now (sheet .entry)) t) (tableCount (now (sheet .entry))) ⌝ }
 {
     let n = sheet[0];
     let mut u = 0;
@@ -110,7 +110,7 @@ fn rests_on_all(sheet: &[u64], t: u64) -> bool
 // Whether t is in some table's Need.
 fn is_needed(sheet: &[u64], t: u64) -> bool
     requires { ⌜ GoodSheet (now sheet) ⌝ }
-    ensures { λ b. ⌜ b ≡ some (neededBy (now (sheet .entry)) t) (at (now (sheet .entry)) 0) ⌝ }
+    ensures { λ b. ⌜ b ≡ some (neededBy (now (sheet .entry)) t) (tableCount (now (sheet .entry))) ⌝ }
 {
     let n = sheet[0];
     let mut u = 0;
@@ -137,7 +137,7 @@ pub fn is_kept(sheet: &[u64], t: u64) -> bool
 // Whether c is the child column of an edge that leaves t.
 pub fn is_child_column(sheet: &[u64], t: u64, c: u64) -> bool
     requires { ⌜ Counts (now sheet) ⌝ }
-    ensures { λ b. ⌜ b ≡ some (leavesBy (now (sheet .entry)) t c) (at (now (sheet .entry)) 1) ⌝ }
+    ensures { λ b. ⌜ b ≡ some (leavesBy (now (sheet .entry)) t c) (edgeCount (now (sheet .entry))) ⌝ }
 {
     let e = sheet[1] as usize;
     let from = 4 + sheet[0] as usize;
@@ -166,7 +166,7 @@ pub fn is_shown(sheet: &[u64], t: u64, c: u64) -> bool
         return true;
     }
     let p = sheet[3] as usize;
-    if words::listing_of(sheet, t, c, p) < p {
+    if sheet::listing_of(sheet, t, c, p) < p {
         return true;
     }
     false

@@ -7,10 +7,10 @@ use mathlib.Core.List.{List}
 use native.Mathlib.Omega.{arith}
 use lib.ListN.{length, replicate, length-replicate}
 use borrow.Author.Tests.{le-leb, lt-leb}
-use Rattle.lists.specs.Lists.{Words, at}
+use Rattle.lists.specs.Lists.{Words}
 use Rattle.lists.specs.Loops.{every}
 use Rattle.lists.proofs.Truth.{isT}
-use Rattle.meaning.specs.Sheet.{sheetOf, room}
+use Rattle.meaning.specs.Sheet.{sheetOf, room, tableCount}
 use Rattle.meaning.specs.Plan as Plans
 use Rattle.meaning.specs.Base.{baseOf, goodBase}
 use Rattle.meaning.specs.Meaning.{theList, meaning}
@@ -66,17 +66,17 @@ module _ {ws store run : Words} {plan : Plan} {starts numbers : List ℕ} (st : 
       record { laid = te .laid; orders = te .orders; keyed = keyed; root-is = root-is; outward = o }
 
   -- Refusal 9
-  fits-are : (b c : Bool) → every (fitsNo ws run) (at ws 0) ≡ b → listFits (sheetOf ws) (tablesOf ws run) ≡ c → fits (sheetOf ws) (meaning (sheetOf ws) (baseOf (sheetOf ws) run)) ≡ (b && c)
+  fits-are : (b c : Bool) → every (fitsNo ws run) (tableCount ws) ≡ b → listFits (sheetOf ws) (tablesOf ws run) ≡ c → fits (sheetOf ws) (meaning (sheetOf ws) (baseOf (sheetOf ws) run)) ≡ (b && c)
   unfolding tablesOf
   fits-are b c e f = fits-is (sheetOf ws) (tablesOf ws run) ∙ rw (sym (fits-all ws run) ∙ e, f)
 
   full : fits (sheetOf ws) (meaning (sheetOf ws) (baseOf (sheetOf ws) run)) ≡ false → Says (fill ws store run) (Refused 9) store
   full f = says-refused (fill ws store run) 9 store (λ z. omega arith) (fill-9 ws store run (st .good .not-refused) (st .long) base-is f)
 
-  pub sides-refused : every (fitsNo ws run) (at ws 0) ≡ false → Says (fill ws store run) (Refused 9) store
+  pub sides-refused : every (fitsNo ws run) (tableCount ws) ≡ false → Says (fill ws store run) (Refused 9) store
   sides-refused e = full (fits-are false (listFits (sheetOf ws) (tablesOf ws run)) e refl)
 
-  module _ (sides : every (fitsNo ws run) (at ws 0) ≡ true) (list : Part) (e : list ≡ partOf plan (plan .tables)) (added : ℕ)
+  module _ (sides : every (fitsNo ws run) (tableCount ws) ≡ true) (list : Part) (e : list ≡ partOf plan (plan .tables)) (added : ℕ)
       (counted : added ≡ length (theList (sheetOf ws) (tablesOf ws run))) where
     room-is : list .room ≡ room (sheetOf ws) (sheetOf ws .n)
     room-is = list-lies (sheetOf ws) plan (st .planned) list e .room-is
@@ -94,7 +94,7 @@ module _ {ws store run : Words} {plan : Plan} {starts numbers : List ℕ} (st : 
           yes : listFits (sheetOf ws) (tablesOf ws run) ≡ true
           yes = unfold listFits in le-leb (length (theList (sheetOf ws) (tablesOf ws run))) (room (sheetOf ws) (sheetOf ws .n)) (omega (arith, room-is))
 
-      pub blank : (now : Words) → Stands (sheetOf ws) now (partlyOf ws run (at ws 0)) → Blank ws run list now
+      pub blank : (now : Words) → Stands (sheetOf ws) now (partlyOf ws run (tableCount ws)) → Blank ws run list now
       blank now h =
           record {
             lies = list-lies (sheetOf ws) plan (st .planned) list e;

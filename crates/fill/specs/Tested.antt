@@ -5,8 +5,8 @@ use mathlib.Core.Path.{_≡_}
 use mathlib.Core.Bool.{true}
 use mathlib.Core.List.{List}
 use lib.ListN.{length}
-use Rattle.lists.specs.Lists.{Words, at}
-use Rattle.meaning.specs.Sheet.{sheetOf}
+use Rattle.lists.specs.Lists.{Words}
+use Rattle.meaning.specs.Sheet.{sheetOf, tableCount}
 use Rattle.meaning.specs.Plan.{storeLength}
 use Rattle.meaning.specs.Base.{lawful}
 use Rattle.sheet.specs.Tree.{GoodSheet}
@@ -24,6 +24,6 @@ pub record Stored (ws : Words) (plan : Plan) (store : Words) : Type 0 where
 -- a lawful base run, where its tables begin, and their row numbers in key order
 pub record Tested (ws run : Words) (starts numbers : List ℕ) : Type 0 where
   pub laid : Laid ws run starts
-  pub orders : Orders ws run numbers (at ws 0)
+  pub orders : Orders ws run numbers (tableCount ws)
   pub counts : goodRun (sheetOf ws) run ≡ true
   pub lawful : lawful (sheetOf ws) (tablesOf ws run) ≡ true

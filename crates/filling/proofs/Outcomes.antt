@@ -20,7 +20,7 @@ use Rattle.meaning.specs.Fill.{fillRefusal, filled, fill}
 use Rattle.laws.proofs.Numbers.{fill-number, fill-refused}
 use Rattle.laws.proofs.Models.{part-side, part-list}
 use Rattle.laws.proofs.Meanings.{meaning-many, meaning-side, meaning-list}
-use Rattle.words.proofs.Numbers.{all-upTo}
+use Rattle.sheet.proofs.Numbers.{all-upTo}
 use Rattle.filling.specs.Written.{sideFits, listFits}
 
 -- a number that is not 0 is the first

@@ -20,7 +20,7 @@ use Rattle.rows.proofs.Cut.{row-fits, cut-length, cut-at, cut-front, row-at, ro
 use Rattle.meaning.specs.Sheet.{Sheet, tables, width}
 use Rattle.meaning.specs.Base.{rowsOf, baseStart, baseOf, lawful, goodBase}
 use Rattle.laws.proofs.Lists.{at-upTo, sum-front, sum-last, facts}
-use Rattle.words.proofs.Numbers.{all-upTo}
+use Rattle.sheet.proofs.Numbers.{all-upTo}
 use Rattle.filling.specs.Runs.{fewRows, goodRun, Run, tableWords, rowNo}
 
 -- Where the tables begin: behind the counts, each behind the one before, the last ends with the run

@@ -28,8 +28,8 @@ use Rattle.laws.proofs.Sheets.{Good}
 use Rattle.laws.proofs.Columns.{key-pick}
 use Rattle.laws.proofs.Keys.{once-first, once-rest, once-same, key-mem}
 use Rattle.laws.proofs.Qualified.{side-kept}
-use Rattle.words.specs.Counted.{counted}
-use Rattle.words.proofs.Numbers.{length-up}
+use Rattle.sheet.specs.Counted.{counted}
+use Rattle.sheet.proofs.Numbers.{length-up}
 use Rattle.filling.specs.Runs.{rowNo}
 use Rattle.filling.specs.Qualifies.{passing, numbered, sideRows}
 use Rattle.filling.proofs.Qualifies.{passing-rows}

@@ -10,11 +10,11 @@ use lib.ListN.{length, getD}
 use borrow.Author.Tests.{le-leb, lt-leb}
 use Rattle.lists.specs.Lists.{Words, at}
 use Rattle.rows.specs.Rows.{Rows}
-use Rattle.meaning.specs.Sheet.{room, sheetOf}
+use Rattle.meaning.specs.Sheet.{room, sheetOf, tableCount}
 use Rattle.meaning.specs.Plan.{kept}
 use Rattle.laws.proofs.Qualified.{side-unkept}
-use Rattle.words.specs.Counted.{counted}
-use Rattle.words.proofs.Words.{n-is}
+use Rattle.sheet.specs.Counted.{counted}
+use Rattle.sheet.proofs.Words.{n-is}
 use Rattle.layout.specs.declared.Plan.{Plan}
 use Rattle.store.specs.Plans.{GoodPlan}
 use Rattle.store.proofs.Plans.{marked, unmarked}
@@ -29,13 +29,13 @@ use Rattle.qualify.specs.Qualifying.{Based, passesNo}
 use Rattle.fillsides.specs.Sides.{sideOf, fitsNo}
 
 -- with all tables left on the path
-pub passes-all : (ws run : Words) (t i : ℕ) → passesNo ws run (at ws 0) t i ≡ passing (sheetOf ws) (tablesOf ws run) (sheetOf ws .n) t (rowNo (tablesOf ws run) t i)
+pub passes-all : (ws run : Words) (t i : ℕ) → passesNo ws run (tableCount ws) t i ≡ passing (sheetOf ws) (tablesOf ws run) (sheetOf ws .n) t (rowNo (tablesOf ws run) t i)
 unfolding passesNo
 passes-all ws run t i = ap (λ (k : ℕ). passing (sheetOf ws) (tablesOf ws run) k t (rowNo (tablesOf ws run) t i)) (sym (n-is ws))
 
 -- the qualified rows that a loop counts are the side table's
-pub count-is : {ws run : Words} {starts order : List ℕ} → Based ws run starts order → {t : ℕ} → t < at ws 0 → T (kept (sheetOf ws) t) → (many : ℕ)
-    → many ≡ counted (passesNo ws run (at ws 0) t) (at run t) → many ≡ length (sideOf ws run t)
+pub count-is : {ws run : Words} {starts order : List ℕ} → Based ws run starts order → {t : ℕ} → t < tableCount ws → T (kept (sheetOf ws) t) → (many : ℕ)
+    → many ≡ counted (passesNo ws run (tableCount ws) t) (at run t) → many ≡ length (sideOf ws run t)
 unfolding sideOf passesNo
 count-is {ws} {run} b {t} l k many e =
     e
@@ -43,7 +43,7 @@ count-is {ws} {run} b {t} l k many e =
     ∙ ap (counted (λ i. passing (sheetOf ws) (tablesOf ws run) (sheetOf ws .n) t (rowNo (tablesOf ws run) t i))) (sym (rows-count (b .laid) t l))
     ∙ sym (side-count (sheetOf ws) (good-of ws (b .laid .good)) (tablesOf ws run) t (omega (arith, n-is ws)) k)
 
-module _ (ws : Words) {p : Plan} (plan : GoodPlan (sheetOf ws) p) {t : ℕ} (l : t < at ws 0) where
+module _ (ws : Words) {p : Plan} (plan : GoodPlan (sheetOf ws) p) {t : ℕ} (l : t < tableCount ws) where
   inside : t < sheetOf ws .n
   inside = omega (arith, n-is ws)
 

@@ -15,9 +15,9 @@ use Rattle.rows.specs.Rows.{Rows, key}
 use Rattle.rows.proofs.Cut.{cut-at}
 use Rattle.rows.proofs.Search.{row-key}
 use Rattle.order.proofs.Keys.{climbs, ordered-number}
-use Rattle.meaning.specs.Sheet.{width, sheetOf}
+use Rattle.meaning.specs.Sheet.{width, sheetOf, tableCount}
 use Rattle.meaning.specs.Base.{rowsOf}
-use Rattle.words.proofs.Words.{n-is, width-is}
+use Rattle.sheet.proofs.Words.{n-is, width-is}
 use Rattle.filling.specs.Runs.{tableWords}
 use Rattle.filling.specs.Qualifies.{numbered}
 use Rattle.filling.proofs.Runs.{words-long, rows-are}
@@ -37,7 +37,7 @@ numbered-long : (rows : Rows) (order : List ℕ) → length (numbered rows order
 unfolding numbered
 numbered-long rows order = length-map order (λ i. getD rows i [])
 
-module _ {ws run : Words} {starts order : List ℕ} (b : Based ws run starts order) {t : ℕ} (l : t < at ws 0) where
+module _ {ws run : Words} {starts order : List ℕ} (b : Based ws run starts order) {t : ℕ} (l : t < tableCount ws) where
   inside : t < sheetOf ws .n
   inside = omega (arith, n-is ws)
 

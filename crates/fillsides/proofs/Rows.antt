@@ -16,7 +16,7 @@ use Rattle.rows.specs.Words.{written}
 use Rattle.rows.specs.Regions.{laid}
 use Rattle.rows.proofs.Cut.{Wide, wide-cons}
 use Rattle.rows.proofs.Moves.{written-step}
-use Rattle.meaning.specs.Sheet.{Sheet, width, sheetOf}
+use Rattle.meaning.specs.Sheet.{Sheet, width, sheetOf, tableCount}
 use Rattle.meaning.specs.Plan.{kept, shown}
 use Rattle.meaning.specs.Base.{Tables, rowsOf}
 use Rattle.meaning.specs.Meaning.{qualifiedIn}
@@ -24,7 +24,7 @@ use Rattle.laws.proofs.Lists.{select-append, map-append}
 use Rattle.laws.proofs.Columns.{shown-below}
 use Rattle.laws.proofs.Keys.{wide-sorted}
 use Rattle.laws.proofs.Qualified.{side-kept}
-use Rattle.words.proofs.Words.{n-is}
+use Rattle.sheet.proofs.Words.{n-is}
 use Rattle.filling.specs.Runs.{rowNo}
 use Rattle.filling.specs.Qualifies.{passing, numbered, sideRows}
 use Rattle.places.proofs.Laid.{laid-none, laid-more}
@@ -45,7 +45,7 @@ picked [] r k h = absurd (not-suc-le-zero h)
 picked (x ∷ columns) r zero h = refl
 picked (x ∷ columns) r (suc k) h = picked columns r k (le-of-suc-le-suc h)
 
-module _ {ws run : Words} {starts : List ℕ} (b : Laid ws run starts) {t i : ℕ} (l : t < at ws 0) (h : i < at run t) where
+module _ {ws run : Words} {starts : List ℕ} (b : Laid ws run starts) {t i : ℕ} (l : t < tableCount ws) (h : i < at run t) where
   pub column-more : (s x : Words) (place : ℕ) (columns : List ℕ) (k v : ℕ) → columns ≡ shown (sheetOf ws) t → place + length columns ≤ length s → k < length columns
       → v ≡ at (rowNo (tablesOf ws run) t i) (at columns k) → x ≡ written s place (pick (shown (sheetOf ws) t) (rowNo (tablesOf ws run) t i)) k
       → set x (place + k) v ≡ written s place (pick (shown (sheetOf ws) t) (rowNo (tablesOf ws run) t i)) (k + 1)
@@ -88,7 +88,7 @@ side-front s base t order j =
     ∙ length-append (sideRows s base t (take j order)) (sideRows s base t (drop j order)) in
     omega arith
 
-module _ {ws run : Words} {starts order : List ℕ} (b : Based ws run starts order) {t : ℕ} (l : t < at ws 0) (is : T (kept (sheetOf ws) t)) where
+module _ {ws run : Words} {starts order : List ℕ} (b : Based ws run starts order) {t : ℕ} (l : t < tableCount ws) (is : T (kept (sheetOf ws) t)) where
   inside : t < sheetOf ws .n
   inside = omega (arith, n-is ws)
 
@@ -126,16 +126,16 @@ module _ {ws run : Words} {starts order : List ℕ} (b : Based ws run starts ord
     number : i ≡ at (numbersOf run order t) j
     number = e ∙ number-is b l j h
 
-    decides : passesNo ws run (at ws 0) t i ≡ passing (sheetOf ws) (tablesOf ws run) (sheetOf ws .n) t (rowNo (tablesOf ws run) t (at (numbersOf run order t) j))
+    decides : passesNo ws run (tableCount ws) t i ≡ passing (sheetOf ws) (tablesOf ws run) (sheetOf ws .n) t (rowNo (tablesOf ws run) t (at (numbersOf run order t) j))
     decides = passes-all ws run t i ∙ ap (λ (i : ℕ). passing (sheetOf ws) (tablesOf ws run) (sheetOf ws .n) t (rowNo (tablesOf ws run) t i)) number
 
-    pub front-miss : passesNo ws run (at ws 0) t i ≡ false → Front (rowsTo ws run order t (j + 1)) size many part
+    pub front-miss : passesNo ws run (tableCount ws) t i ≡ false → Front (rowsTo ws run order t (j + 1)) size many part
     unfolding rowsTo
     front-miss q =
         subst (λ (rows : Rows). Front rows size many part)
         (sym (side-miss (sheetOf ws) (tablesOf ws run) t (numbersOf run order t) j (omega (arith, order-long b l)) (sym decides ∙ q))) f
 
-    module _ (q : passesNo ws run (at ws 0) t i ≡ true) where
+    module _ (q : passesNo ws run (tableCount ws) t i ≡ true) where
       more : rowsTo ws run order t (j + 1) ≡ rowsTo ws run order t j ++ (pick (shown (sheetOf ws) t) (rowNo (tablesOf ws run) t i) ∷ [])
       unfolding rowsTo
       more =

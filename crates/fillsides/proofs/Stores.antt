@@ -16,7 +16,7 @@ use Rattle.lists.specs.Parts.{part}
 use Rattle.rows.specs.Rows.{Rows, rising, pick}
 use Rattle.rows.specs.Regions.{laid, Holds}
 use Rattle.rows.proofs.Sorted.{rising-sorted}
-use Rattle.meaning.specs.Sheet.{room, sheetOf}
+use Rattle.meaning.specs.Sheet.{room, sheetOf, tableCount}
 use Rattle.meaning.specs.Plan.{kept, shown, columns, size}
 use Rattle.meaning.specs.Meaning.{sideTable, qualifiedIn}
 use Rattle.meaning.specs.Store.{partRows, partWords}
@@ -27,7 +27,7 @@ use Rattle.laws.proofs.Qualified.{side-kept}
 use Rattle.places.specs.Stands.{Stands, withPart}
 use Rattle.places.proofs.Parts.{words-length}
 use Rattle.places.proofs.Writes.{part-lent}
-use Rattle.words.proofs.Words.{n-is}
+use Rattle.sheet.proofs.Words.{n-is}
 use Rattle.layout.specs.declared.Plan.{Plan}
 use Rattle.store.specs.declared.Part.{Part}
 use Rattle.store.specs.Parts.{wordsIn, Lies, Within}
@@ -43,11 +43,11 @@ use Rattle.fillsides.specs.Sides.{sideOf, fitsNo, partlyOf, Front}
 use Rattle.fillsides.proofs.Rows.{wide-side}
 use Rattle.fillsides.proofs.Counts.{unkept-here}
 
-pub tables-in : {ws run : Words} {starts order : List ℕ} → Based ws run starts order → {p : Plan} → GoodPlan (sheetOf ws) p → {t : ℕ} → t < at ws 0
+pub tables-in : {ws run : Words} {starts order : List ℕ} → Based ws run starts order → {p : Plan} → GoodPlan (sheetOf ws) p → {t : ℕ} → t < tableCount ws
     → (t ≤ p .tables) × (p .tables ≤ 8)
 tables-in {ws} b plan l = (omega (arith, n-is ws, plan .planned .tables-are), plan .planned .tables-few)
 
-module _ {ws run : Words} {starts order : List ℕ} (b : Based ws run starts order) {p : Plan} (plan : GoodPlan (sheetOf ws) p) {t : ℕ} (l : t < at ws 0)
+module _ {ws run : Words} {starts order : List ℕ} (b : Based ws run starts order) {p : Plan} (plan : GoodPlan (sheetOf ws) p) {t : ℕ} (l : t < tableCount ws)
     {store : Words} (st : Stands (sheetOf ws) store (partlyOf ws run t)) where
   inside : t < sheetOf ws .n
   inside = omega (arith, n-is ws)

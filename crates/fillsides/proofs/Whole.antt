@@ -3,20 +3,20 @@
 use Prim.Native.Nat.{ℕ}
 use mathlib.Core.Path.{_≡_, ap, sym, _∙_}
 use lib.ListN.{length, replicate}
-use Rattle.lists.specs.Lists.{Words, at}
+use Rattle.lists.specs.Lists.{Words}
 use Rattle.lists.specs.Loops.{every}
-use Rattle.meaning.specs.Sheet.{sheetOf}
+use Rattle.meaning.specs.Sheet.{sheetOf, tableCount}
 use Rattle.meaning.specs.Plan.{storeLength}
 use Rattle.laws.proofs.Sheets.{Good}
 use Rattle.places.specs.Stands.{Stands}
-use Rattle.words.proofs.Words.{n-is}
+use Rattle.sheet.proofs.Words.{n-is}
 use Rattle.filling.specs.Written.{partly, sideFits}
 use Rattle.filling.proofs.Models.{zeros-stand}
 use Rattle.base.specs.Bases.{tablesOf}
 use Rattle.fillsides.specs.Sides.{fitsNo, partlyOf}
 
 module _ (ws run : Words) where
-  pub fits-all : every (fitsNo ws run) (at ws 0) ≡ every (sideFits (sheetOf ws) (tablesOf ws run)) (sheetOf ws .n)
+  pub fits-all : every (fitsNo ws run) (tableCount ws) ≡ every (sideFits (sheetOf ws) (tablesOf ws run)) (sheetOf ws .n)
   unfolding fitsNo
   fits-all = ap (every (sideFits (sheetOf ws) (tablesOf ws run))) (sym (n-is ws))
 
@@ -25,6 +25,6 @@ module _ (ws run : Words) where
   unfolding partlyOf
   none-written g store long zeros = zeros-stand (sheetOf ws) (tablesOf ws run) g store long zeros
 
-  pub all-written : partlyOf ws run (at ws 0) ≡ partly (sheetOf ws) (tablesOf ws run) (sheetOf ws .n)
+  pub all-written : partlyOf ws run (tableCount ws) ≡ partly (sheetOf ws) (tablesOf ws run) (sheetOf ws .n)
   unfolding partlyOf
   all-written = ap (partly (sheetOf ws) (tablesOf ws run)) (sym (n-is ws))

@@ -11,12 +11,12 @@ use Rattle.lists.specs.Lists.{Words, at, any}
 use Rattle.lists.specs.Loops.{every, some}
 use Rattle.lists.proofs.Loops.{and-true}
 use Rattle.rows.specs.Rows.{Row, key}
-use Rattle.meaning.specs.Sheet.{sheetOf, leaves}
+use Rattle.meaning.specs.Sheet.{sheetOf, leaves, tableCount, edgeCount, conditionCount}
 use Rattle.meaning.specs.Base.{Change, goodChange, tied, sameTied, tiedStay}
 use Rattle.laws.proofs.Lists.{any-select}
-use Rattle.words.specs.Numbered.{edgeNo, conditionNo}
-use Rattle.words.proofs.Words.{n-is, width-is, edges-are, conditions-are}
-use Rattle.words.proofs.Numbers.{any-up, all-upTo}
+use Rattle.sheet.specs.Numbered.{edgeNo, conditionNo}
+use Rattle.sheet.proofs.Words.{n-is, width-is, edges-are, conditions-are}
+use Rattle.sheet.proofs.Numbers.{any-up, all-upTo}
 use Rattle.sheet.specs.declared.Verdict.{Verdict}
 use Rattle.sheet.specs.declared.Verdict.the-variants.{Good, Refused}
 use Rattle.derive.specs.Derived.{leavesBy}
@@ -36,14 +36,14 @@ unfolding conditionOn
 on-make ws t c i h = rw (eq-eqb _ _ (h .table), eq-eqb _ _ (h .column))
 
 -- tied, by number
-pub tied-is : (ws : Words) (t c : ℕ) → tiedNo ws t c ≡ (some (conditionOn ws t c) (at ws 2) || some (leavesBy ws t c) (at ws 1))
+pub tied-is : (ws : Words) (t c : ℕ) → tiedNo ws t c ≡ (some (conditionOn ws t c) (conditionCount ws) || some (leavesBy ws t c) (edgeCount ws))
 unfolding tiedNo tied conditionOn leavesBy
 tied-is ws t c =
     ap₂ _||_
     (any-select (λ d. eqb (d .column) c) (λ d. eqb (d .table) t) (sheetOf ws .conditions)
-    ∙ ap (any (λ d. eqb (d .table) t && eqb (d .column) c)) (conditions-are ws) ∙ any-up (λ d. eqb (d .table) t && eqb (d .column) c) (conditionNo ws) (at ws 2))
+    ∙ ap (any (λ d. eqb (d .table) t && eqb (d .column) c)) (conditions-are ws) ∙ any-up (λ d. eqb (d .table) t && eqb (d .column) c) (conditionNo ws) (conditionCount ws))
     (any-select (λ e. eqb (e .column) c) (leaves t) (sheetOf ws .edges)
-    ∙ ap (any (λ e. leaves t e && eqb (e .column) c)) (edges-are ws) ∙ any-up (λ e. leaves t e && eqb (e .column) c) (edgeNo ws) (at ws 1))
+    ∙ ap (any (λ e. leaves t e && eqb (e .column) c)) (edges-are ws) ∙ any-up (λ e. leaves t e && eqb (e .column) c) (edgeNo ws) (edgeCount ws))
 
 module _ (ws : Words) (t : ℕ) (r r′ : Row) (c : ℕ) where
   -- a column of one value, a column that is not tied, and a tied column of two values
@@ -65,9 +65,9 @@ module _ (ws : Words) (t : ℕ) (r r′ : Row) (c : ℕ) where
 
 -- the ways through `asked`
 module _ (ws : Words) (kind t : ℕ) (r r′ : Row) where
-  pub no-table : at ws 0 ≤ t → Refused 5 ≡ askedOf ws (changeOf kind t r r′)
+  pub no-table : tableCount ws ≤ t → Refused 5 ≡ askedOf ws (changeOf kind t r r′)
   unfolding askedOf goodChange
-  no-table h = rw (n-is ws, le-ltb t (at ws 0) h)
+  no-table h = rw (n-is ws, le-ltb t (tableCount ws) h)
 
   pub no-kind : (kind ≡ 1 → ⊥) → (kind ≡ 2 → ⊥) → (kind ≡ 3 → ⊥) → Refused 5 ≡ askedOf ws (changeOf kind t r r′)
   unfolding askedOf goodChange
@@ -77,9 +77,9 @@ module _ (ws : Words) (kind t : ℕ) (r r′ : Row) where
       neither true = refl
       neither false = refl
 
-module _ (ws : Words) (t : ℕ) (l : t < at ws 0) (r r′ : Row) where
+module _ (ws : Words) (t : ℕ) (l : t < tableCount ws) (r r′ : Row) where
   in-sheet : ltb t (sheetOf ws .n) ≡ true
-  in-sheet = rw (n-is ws, lt-ltb t (at ws 0) l)
+  in-sheet = rw (n-is ws, lt-ltb t (tableCount ws) l)
 
   pub asked-insert : oneRow (length r) (length r′) (at ws (4 + t)) ≡ askedOf ws (changeOf 1 t r r′)
   unfolding askedOf goodChange tiedStay oneRow

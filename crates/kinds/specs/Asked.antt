@@ -9,7 +9,7 @@ use Rattle.lists.specs.Loops.{every}
 use Rattle.rows.specs.Rows.{Row, key}
 use Rattle.meaning.specs.Sheet.{sheetOf}
 use Rattle.meaning.specs.Base.{Change, goodChange, tied, tiedStay}
-use Rattle.words.specs.Numbered.{conditionNo}
+use Rattle.sheet.specs.Numbered.{conditionNo}
 use Rattle.sheet.specs.declared.Verdict.{Verdict}
 use Rattle.sheet.specs.declared.Verdict.the-variants.{Good, Refused}
 

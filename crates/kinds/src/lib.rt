@@ -4,9 +4,9 @@ ghost use mathlib.Core.Bool.{_&&_};
 ghost use Prim.Native.Nat.{ℕ, _+_, _<_, _≤_};
 ghost use lib.Dec.{eqb};
 ghost use lib.ListN.{length};
-ghost use Rattle.lists.specs.Lists.{at};
 ghost use Rattle.lists.specs.Loops.{every, some};
-ghost use Rattle.words.specs.Rules.{Counts};
+ghost use Rattle.meaning.specs.Sheet.{conditionCount};
+ghost use Rattle.sheet.specs.Rules.{Counts};
 ghost use Rattle.sheet.specs.Tree.{GoodSheet};
 ghost use Rattle.kinds.specs.Asked.{conditionOn, tiedNo, staysAt, oneRow, twoRows, changeOf, askedOf};
 use sheet::Verdict;
@@ -14,7 +14,7 @@ use sheet::Verdict;
 // Whether a condition speaks of column c of table t.
 fn in_condition(sheet: &[u64], t: u64, c: u64) -> bool
     requires { ⌜ Counts (now sheet) ⌝ }
-    ensures { λ b. ⌜ b ≡ some (conditionOn (now (sheet .entry)) t c) (at (now (sheet .entry)) 2) ⌝ }
+    ensures { λ b. ⌜ b ≡ some (conditionOn (now (sheet .entry)) t c) (conditionCount (now (sheet .entry))) ⌝ }
 {
     let many = sheet[2] as usize;
     let from = 4 + sheet[0] as usize + 4 * sheet[1] as usize;

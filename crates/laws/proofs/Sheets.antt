@@ -9,11 +9,11 @@ use mathlib.Core.Logic.{_⊎_, inl, inr}
 use native.Mathlib.Omega.{arith}
 use lib.Dec.{T, ltb, leb, eqb, ltb→lt, leb→le}
 use lib.ListN.{length, drop, length-take, length-drop, length-map}
-use Rattle.lists.specs.Lists.{Words, at, between, all, any, select, noneTwice}
+use Rattle.lists.specs.Lists.{Words, between, all, any, select, noneTwice}
 use Rattle.lists.proofs.Truth.{Mem, all-get, any-get, mem-select, select-mem, mem-getD, mem-upTo, upTo-mem, eq→eqb, eqb→≡, false→F, or-cases, cond-true, cond-false}
 use Rattle.rows.specs.Rows.{cut}
 use Rattle.rows.proofs.Cut.{cut-length}
-use Rattle.meaning.specs.Sheet.{Edge, Condition, Listed, Sheet, edgeOf, conditionOf, listedOf, edgesAt, conditionsAt, listedAt, roomsAt, sheetOf, tables, width, room, goodCounts, goodEdge, goodCondition, goodListed, sameListed, goodWords, goesInto, edgesInto, isRoot, reached, goodTree, sheetRefusal}
+use Rattle.meaning.specs.Sheet.{Edge, Condition, Listed, Sheet, edgeOf, conditionOf, listedOf, edgesAt, conditionsAt, listedAt, roomsAt, sheetOf, tables, width, room, goodCounts, goodEdge, goodCondition, goodListed, sameListed, goodWords, goesInto, edgesInto, isRoot, reached, goodTree, sheetRefusal, tableCount, edgeCount, conditionCount, listedCount}
 use Rattle.meaning.specs.Plan.{root, edgeInto}
 use Rattle.meaning.specs.Demands.{sheetTests}
 use Rattle.laws.proofs.Lists.{Each, facts, single}
@@ -236,10 +236,10 @@ module _ (s : Sheet) (c : Counted s) (words-good : T (goodWords s)) (tree-good :
 pub counted : (ws : Words) → T (goodCounts ws) → Counted (sheetOf ws)
 unfolding goodCounts sheetOf
 counted ws h =
-    let n = at ws 0 in
-    let e = at ws 1 in
-    let c = at ws 2 in
-    let p = at ws 3 in
+    let n = tableCount ws in
+    let e = edgeCount ws in
+    let c = conditionCount ws in
+    let p = listedCount ws in
     let k = facts (leb 1 n ∷ leb n 8 ∷ eqb (e + 1) n ∷ between 0 16 c ∷ between 1 16 p ∷ eqb (length ws) (4 + 2 * n + 1 + 4 * e + 4 * c + 2 * p) ∷ []) h in
     let c-in = facts (leb 0 c ∷ leb c 16 ∷ []) (k .1 .1 .1 .0) in
     let p-in = facts (leb 1 p ∷ leb p 16 ∷ []) (k .1 .1 .1 .1 .0) in

@@ -14,9 +14,9 @@ use borrow.Author.Tests.{lt-ltb, le-ltb}
 use Rattle.lists.specs.Lists.{at, select, from, upTo}
 use Rattle.lists.specs.Loops.{filled}
 use Rattle.lists.proofs.Truth.{Mem, from-mem, select-same}
-use Rattle.words.specs.Counted.{counted}
+use Rattle.sheet.specs.Counted.{counted}
 use Rattle.laws.proofs.Lists.{select-append}
-use Rattle.words.proofs.Numbers.{length-upTo}
+use Rattle.sheet.proofs.Numbers.{length-upTo}
 
 pub from-split : (i a b : ℕ) → from i (a + b) ≡ from i a ++ from (i + a) b
 from-split i zero b = ap₂ from (sym (add-zero i)) (zero-add b)

@@ -12,9 +12,9 @@ use Rattle.lists.specs.Lists.{Words, at, member}
 use Rattle.lists.specs.Totals.{one}
 use Rattle.lists.specs.Loops.{filled}
 use Rattle.lists.proofs.Loops.{length-filled, getD-filled}
-use Rattle.meaning.specs.Sheet.{Sheet, sheetOf, sheetRefusal, hasColumn}
+use Rattle.meaning.specs.Sheet.{Sheet, sheetOf, sheetRefusal, hasColumn, tableCount}
 use Rattle.meaning.specs.Plan.{dep, need, isShown, shown, columns, size, start, storeLength}
-use Rattle.words.proofs.Words.{n-is}
+use Rattle.sheet.proofs.Words.{n-is}
 use Rattle.sheet.specs.Tree.{GoodSheet}
 use Rattle.sheet.proofs.Good.{zero-good, good-sheet}
 use Rattle.layout.specs.Plans.{keptAt, keptOf, showsAt, showsOf, shownAt, shownOf, columnsOf, roomAt, roomsOf, startsOf, depAt, depOf, needAt, needOf, planFor, planBeside, checkedOf}
@@ -55,7 +55,7 @@ module _ (ws : Words) (g : GoodSheet ws) where
   n-few : sheetOf ws .n ≤ 8
   n-few = omega (arith, n-is ws, g .joined .rules .counts .tables-few)
 
-  below : (part : ℕ) → part ≤ sheetOf ws .n → part ≤ at ws 0
+  below : (part : ℕ) → part ≤ sheetOf ws .n → part ≤ tableCount ws
   below part h = omega (arith, n-is ws)
 
   parts-read : (f : ℕ → ℕ) (part : ℕ) → part ≤ sheetOf ws .n → getD (filled f (sheetOf ws .n + 1) (replicate 9 0)) part 0 ≡ f part

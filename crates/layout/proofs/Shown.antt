@@ -12,10 +12,10 @@ use Rattle.lists.specs.Lists.{Words, at, upTo}
 use Rattle.lists.specs.Totals.{one}
 use Rattle.lists.proofs.Truth.{upTo-mem, select-same}
 use Rattle.lists.proofs.Loops.{getD-filled}
-use Rattle.meaning.specs.Sheet.{sheetOf, width, hasColumn}
+use Rattle.meaning.specs.Sheet.{sheetOf, width, hasColumn, tableCount}
 use Rattle.meaning.specs.Plan.{isShown, shown}
-use Rattle.words.specs.Rules.{Rules}
-use Rattle.words.proofs.Words.{n-is, width-is}
+use Rattle.sheet.specs.Rules.{Rules}
+use Rattle.sheet.proofs.Words.{n-is, width-is}
 use Rattle.layout.specs.Marks.{marked, markedIn, markedAt, listsOf}
 use Rattle.layout.specs.Plans.{showsAt, showsOf, shownAt, shownOf}
 use Rattle.layout.proofs.Chosen.{select-narrow, filled-same}
@@ -27,27 +27,27 @@ one-is false = refl
 
 module _ (ws : Words) (r : Rules ws) where
   -- a table that is not there has no columns
-  pub width-past : (t : ℕ) → at ws 0 ≤ t → width (sheetOf ws) t ≡ 0
+  pub width-past : (t : ℕ) → tableCount ws ≤ t → width (sheetOf ws) t ≡ 0
   unfolding sheetOf
   width-past t h =
-      let l : length (take (at ws 0) (drop 4 ws)) ≤ t = simp length-take (omega arith) in
-      List·getD-eq-default (take (at ws 0) (drop 4 ws)) 0 l
+      let l : length (take (tableCount ws) (drop 4 ws)) ≤ t = simp length-take (omega arith) in
+      List·getD-eq-default (take (tableCount ws) (drop 4 ws)) 0 l
 
   pub width-small : (t : ℕ) → width (sheetOf ws) t ≤ 8
-  width-small t = go (ltb t (at ws 0)) refl
+  width-small t = go (ltb t (tableCount ws)) refl
     where
-      go : (b : Bool) → ltb t (at ws 0) ≡ b → width (sheetOf ws) t ≤ 8
-      go true e = let l = ltb-true t (at ws 0) e in omega (arith, width-is ws t l, r .widths t l .high)
-      go false e = omega (arith, width-past t (ltb-false t (at ws 0) e))
+      go : (b : Bool) → ltb t (tableCount ws) ≡ b → width (sheetOf ws) t ≤ 8
+      go true e = let l = ltb-true t (tableCount ws) e in omega (arith, width-is ws t l, r .widths t l .high)
+      go false e = omega (arith, width-past t (ltb-false t (tableCount ws) e))
 
   pub has-column : (t c : ℕ) → hasColumn (sheetOf ws) t c ≡ ltb c (width (sheetOf ws) t)
-  has-column t c = go (ltb t (at ws 0)) refl
+  has-column t c = go (ltb t (tableCount ws)) refl
     where
-      go : (b : Bool) → ltb t (at ws 0) ≡ b → hasColumn (sheetOf ws) t c ≡ ltb c (width (sheetOf ws) t)
+      go : (b : Bool) → ltb t (tableCount ws) ≡ b → hasColumn (sheetOf ws) t c ≡ ltb c (width (sheetOf ws) t)
       go true e = ap (λ (b : Bool). b && ltb c (width (sheetOf ws) t)) (ap (ltb t) (n-is ws) ∙ e)
       go false e =
           ap (λ (b : Bool). b && ltb c (width (sheetOf ws) t)) (ap (ltb t) (n-is ws) ∙ e)
-          ∙ sym (le-ltb c (width (sheetOf ws) t) (omega (arith, width-past t (ltb-false t (at ws 0) e))))
+          ∙ sym (le-ltb c (width (sheetOf ws) t) (omega (arith, width-past t (ltb-false t (tableCount ws) e))))
 
   -- the marks of table t
   pub marked-shows : (t c : ℕ) → t < 8 → c < 8 → marked (showsOf (sheetOf ws)) t c ≡ (ltb c (width (sheetOf ws) t) && isShown (sheetOf ws) t c)

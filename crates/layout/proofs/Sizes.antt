@@ -16,14 +16,14 @@ use Rattle.lists.specs.Loops.{filled}
 use Rattle.lists.proofs.Truth.{isT, false→F}
 use Rattle.lists.proofs.Loops.{getD-filled}
 use Rattle.lists.proofs.Places.{length-from}
-use Rattle.meaning.specs.Sheet.{Sheet, sheetOf, width, room}
+use Rattle.meaning.specs.Sheet.{Sheet, sheetOf, width, room, tableCount, listedCount}
 use Rattle.meaning.specs.Plan.{dep, need, needIn, kept, isShown, shown, columns, size, start, storeLength}
 use Rattle.laws.proofs.Stores.{start-next}
 use Rattle.laws.proofs.Columns.{columns-side, columns-unkept, columns-list}
-use Rattle.words.specs.Counted.{counted}
-use Rattle.words.specs.Numbered.{listingNo, roomNo}
-use Rattle.words.proofs.Words.{n-is, listed-are, room-is}
-use Rattle.words.proofs.Numbers.{length-upTo}
+use Rattle.sheet.specs.Counted.{counted}
+use Rattle.sheet.specs.Numbered.{listingNo, roomNo}
+use Rattle.sheet.proofs.Words.{n-is, listed-are, room-is}
+use Rattle.sheet.proofs.Numbers.{length-upTo}
 use Rattle.sheet.specs.Tree.{GoodSheet}
 use Rattle.derive.specs.Derived.{depNo, needNo}
 use Rattle.layout.specs.Marks.{marked, markedIn}
@@ -49,15 +49,15 @@ pub dep-mark : (ws : Words) (i v : ℕ) (b : Bool) → b ≡ depNo ws 1 (i / 8) 
 unfolding depNo depAt
 dep-mark ws i v b e m = m ∙ ap one (e ∙ ap (member (i % 8)) (flat-ones (dep (sheetOf ws) (i / 8))))
 
-pub need-none : (ws : Words) (i : ℕ) → at ws 0 ≤ i / 8 → 0 ≡ needAt (sheetOf ws) i
+pub need-none : (ws : Words) (i : ℕ) → tableCount ws ≤ i / 8 → 0 ≡ needAt (sheetOf ws) i
 unfolding needAt
-need-none ws i h = rw (n-is ws, le-ltb (i / 8) (at ws 0) h)
+need-none ws i h = rw (n-is ws, le-ltb (i / 8) (tableCount ws) h)
 
-pub need-mark : (ws : Words) (i v : ℕ) (b : Bool) → i / 8 < at ws 0 → b ≡ needNo ws (at ws 0) (i / 8) (i % 8) → v ≡ one b → v ≡ needAt (sheetOf ws) i
+pub need-mark : (ws : Words) (i v : ℕ) (b : Bool) → i / 8 < tableCount ws → b ≡ needNo ws (tableCount ws) (i / 8) (i % 8) → v ≡ one b → v ≡ needAt (sheetOf ws) i
 unfolding needAt needNo need
 need-mark ws i v b h e m =
     m ∙ ap one (e ∙ sym (ap₂ (λ (b : Bool) (k : ℕ). b && member (i % 8) (needIn (sheetOf ws) k (i / 8)))
-    (ap (ltb (i / 8)) (n-is ws) ∙ lt-ltb (i / 8) (at ws 0) h) (n-is ws)))
+    (ap (ltb (i / 8)) (n-is ws) ∙ lt-ltb (i / 8) (tableCount ws) h) (n-is ws)))
 
 -- the parts stand one behind the other
 pub start-first : (s : Sheet) → start s 0 ≡ 9
@@ -78,23 +78,23 @@ unfolding shown
 shown-few s t = omega (arith, length-upTo (isShown s t) (width s t), counted-le (isShown s t) (width s t))
 
 -- an array filled for the parts 0 to n, read back
-part-read : (f : ℕ → ℕ) (ws : Words) → GoodSheet ws → (part : ℕ) → part ≤ at ws 0 → getD (filled f (sheetOf ws .n + 1) (replicate 9 0)) part 0 ≡ f part
+part-read : (f : ℕ → ℕ) (ws : Words) → GoodSheet ws → (part : ℕ) → part ≤ tableCount ws → getD (filled f (sheetOf ws .n + 1) (replicate 9 0)) part 0 ≡ f part
 part-read f ws g part h =
-    rw (n-is ws) (getD-filled f (at ws 0 + 1) part 0 (replicate 9 0) (omega arith) (omega (arith, g .joined .rules .counts .tables-few)))
+    rw (n-is ws) (getD-filled f (tableCount ws + 1) part 0 (replicate 9 0) (omega arith) (omega (arith, g .joined .rules .counts .tables-few)))
 
 module _ (ws : Words) (g : GoodSheet ws) where
   -- the columns of a part, as the code finds them
-  pub columns-of-list : (part : ℕ) → part ≤ at ws 0 → at ws 0 ≤ part → at ws 3 ≡ columns (sheetOf ws) part
+  pub columns-of-list : (part : ℕ) → part ≤ tableCount ws → tableCount ws ≤ part → listedCount ws ≡ columns (sheetOf ws) part
   columns-of-list part h l =
       let q : part ≡ sheetOf ws .n = omega (arith, n-is ws) in
-      rw (q, columns-list (sheetOf ws), listed-are ws) (sym (length-map (upTo (at ws 3)) (listingNo ws) ∙ length-from 0 (at ws 3)))
+      rw (q, columns-list (sheetOf ws), listed-are ws) (sym (length-map (upTo (listedCount ws)) (listingNo ws) ∙ length-from 0 (listedCount ws)))
 
-  module _ (part : ℕ) (marks : List ℕ) (e : marks ≡ keptOf (sheetOf ws)) (h : part < at ws 0) where
+  module _ (part : ℕ) (marks : List ℕ) (e : marks ≡ keptOf (sheetOf ws)) (h : part < tableCount ws) where
     kept-read : getD marks part 0 ≡ one (kept (sheetOf ws) part)
     unfolding keptOf keptAt
     kept-read =
         ap (λ (l : List ℕ). getD l part 0) e ∙ ap (λ (n : ℕ). getD (filled (keptAt (sheetOf ws)) n (replicate 8 0)) part 0) (n-is ws)
-        ∙ (getD-filled (keptAt (sheetOf ws)) (at ws 0) part 0 (replicate 8 0) h (omega (arith, g .joined .rules .counts .tables-few)))
+        ∙ (getD-filled (keptAt (sheetOf ws)) (tableCount ws) part 0 (replicate 8 0) h (omega (arith, g .joined .rules .counts .tables-few)))
 
     pub columns-none : getD marks part 0 ≡ 0 → 0 ≡ columns (sheetOf ws) part
     columns-none z = go (kept (sheetOf ws) part) refl (sym kept-read ∙ z)
@@ -117,49 +117,49 @@ module _ (ws : Words) (g : GoodSheet ws) where
         go false d y = absurd (z y)
 
   -- how large they are
-  pub columns-small : (part : ℕ) → part ≤ at ws 0 → columns (sheetOf ws) part ≤ 16
-  columns-small part h = go (ltb part (at ws 0)) refl (kept (sheetOf ws) part) refl
+  pub columns-small : (part : ℕ) → part ≤ tableCount ws → columns (sheetOf ws) part ≤ 16
+  columns-small part h = go (ltb part (tableCount ws)) refl (kept (sheetOf ws) part) refl
     where
-      go : (b : Bool) → ltb part (at ws 0) ≡ b → (d : Bool) → kept (sheetOf ws) part ≡ d → columns (sheetOf ws) part ≤ 16
+      go : (b : Bool) → ltb part (tableCount ws) ≡ b → (d : Bool) → kept (sheetOf ws) part ≡ d → columns (sheetOf ws) part ≤ 16
       go true e true d =
-          let l : part < sheetOf ws .n = omega (arith, ltb-true part (at ws 0) e, n-is ws) in
+          let l : part < sheetOf ws .n = omega (arith, ltb-true part (tableCount ws) e, n-is ws) in
           let w = width-small ws (g .joined .rules) part in
           let c = shown-few (sheetOf ws) part in
           omega (arith, columns-side (sheetOf ws) part l (isT d))
       go true e false d =
-          let l : part < sheetOf ws .n = omega (arith, ltb-true part (at ws 0) e, n-is ws) in
+          let l : part < sheetOf ws .n = omega (arith, ltb-true part (tableCount ws) e, n-is ws) in
           omega (arith, columns-unkept (sheetOf ws) part l (false→F d))
-      go false e d q = omega (arith, columns-of-list part h (ltb-false part (at ws 0) e), g .joined .rules .counts .listed-few)
+      go false e d q = omega (arith, columns-of-list part h (ltb-false part (tableCount ws) e), g .joined .rules .counts .listed-few)
 
-  pub room-small : (part : ℕ) → part ≤ at ws 0 → room (sheetOf ws) part ≤ 4096
+  pub room-small : (part : ℕ) → part ≤ tableCount ws → room (sheetOf ws) part ≤ 4096
   room-small part h = omega (arith, room-is ws part, g .joined .rules .rooms part (omega arith) .high)
 
-  pub size-small : (part : ℕ) → part ≤ at ws 0 → size (sheetOf ws) part ≤ 65536
+  pub size-small : (part : ℕ) → part ≤ tableCount ws → size (sheetOf ws) part ≤ 65536
   unfolding size
   size-small part h = mul-le-mul (room-small part h) (columns-small part h)
 
-  pub start-small : (part : ℕ) → part ≤ at ws 0 + 1 → start (sheetOf ws) part ≤ 9 + part * 65536
+  pub start-small : (part : ℕ) → part ≤ tableCount ws + 1 → start (sheetOf ws) part ≤ 9 + part * 65536
   start-small zero h = omega (arith, start-first (sheetOf ws))
   start-small (suc part) h = omega (arith, start-small part (omega arith), start-next (sheetOf ws) part, size-small part (omega arith))
 
   -- the words of a part, from the arrays
-  pub size-read : (rooms cols : List ℕ) (part : ℕ) → rooms ≡ roomsOf (sheetOf ws) → cols ≡ columnsOf (sheetOf ws) → part ≤ at ws 0
+  pub size-read : (rooms cols : List ℕ) (part : ℕ) → rooms ≡ roomsOf (sheetOf ws) → cols ≡ columnsOf (sheetOf ws) → part ≤ tableCount ws
       → getD rooms part 0 * getD cols part 0 ≡ size (sheetOf ws) part
   unfolding size roomsOf columnsOf roomAt
   size-read rooms cols part e q h =
       ap₂ (λ (x y : List ℕ). getD x part 0 * getD y part 0) e q ∙ ap₂ _*_ (part-read (roomAt (sheetOf ws)) ws g part h) (part-read (columns (sheetOf ws)) ws g part h)
 
-  pub start-read : (starts : List ℕ) (part : ℕ) → starts ≡ startsOf (sheetOf ws) → part ≤ at ws 0 → getD starts part 0 ≡ start (sheetOf ws) part
+  pub start-read : (starts : List ℕ) (part : ℕ) → starts ≡ startsOf (sheetOf ws) → part ≤ tableCount ws → getD starts part 0 ≡ start (sheetOf ws) part
   unfolding startsOf
   start-read starts part e h = rw (e, part-read (start (sheetOf ws)) ws g part h)
 
   -- the list's place
-  pub list-start : (starts : List ℕ) → starts ≡ startsOf (sheetOf ws) → (getD starts (at ws 0) 0 ≡ start (sheetOf ws) (at ws 0)) × (getD starts (at ws 0) 0 ≤ 9 + 8 * 65536)
+  pub list-start : (starts : List ℕ) → starts ≡ startsOf (sheetOf ws) → (getD starts (tableCount ws) 0 ≡ start (sheetOf ws) (tableCount ws)) × (getD starts (tableCount ws) 0 ≤ 9 + 8 * 65536)
   list-start starts e =
-      let r = start-read starts (at ws 0) e (omega arith) in
-      let l = start-small (at ws 0) (omega arith) in
+      let r = start-read starts (tableCount ws) e (omega arith) in
+      let l = start-small (tableCount ws) (omega arith) in
       (r, omega (arith, g .joined .rules .counts .tables-few))
 
-  pub store-is : (a b : ℕ) → a ≡ start (sheetOf ws) (at ws 0) → b ≡ size (sheetOf ws) (at ws 0) → a + b ≡ storeLength (sheetOf ws)
+  pub store-is : (a b : ℕ) → a ≡ start (sheetOf ws) (tableCount ws) → b ≡ size (sheetOf ws) (tableCount ws) → a + b ≡ storeLength (sheetOf ws)
   unfolding storeLength
-  store-is a b e q = omega (arith, start-next (sheetOf ws) (at ws 0), ap (λ (n : ℕ). start (sheetOf ws) (n + 1)) (n-is ws), ap (start (sheetOf ws)) (add-one (at ws 0)))
+  store-is a b e q = omega (arith, start-next (sheetOf ws) (tableCount ws), ap (λ (n : ℕ). start (sheetOf ws) (n + 1)) (n-is ws), ap (start (sheetOf ws)) (add-one (tableCount ws)))

@@ -11,15 +11,15 @@ use Rattle.lists.specs.Lists.{Words, at}
 use Rattle.lists.specs.Totals.{one}
 use Rattle.lists.specs.Loops.{filled}
 use Rattle.lists.proofs.Loops.{filled-end}
-use Rattle.meaning.specs.Sheet.{sheetOf, hasColumn}
+use Rattle.meaning.specs.Sheet.{sheetOf, hasColumn, tableCount}
 use Rattle.meaning.specs.Plan.{storeLength}
 use Rattle.meaning.specs.Plan as Meant
-use Rattle.words.specs.Rules.{Rules}
+use Rattle.sheet.specs.Rules.{Rules}
 use Rattle.sheet.specs.Verdicts.{verdictOf}
 use Rattle.sheet.specs.declared.Verdict.{Verdict}
 use Rattle.sheet.specs.declared.Verdict.the-variants.{Good, Refused}
-use Rattle.words.specs.Counted.{counted}
-use Rattle.words.proofs.Words.{n-is}
+use Rattle.sheet.specs.Counted.{counted}
+use Rattle.sheet.proofs.Words.{n-is}
 use Rattle.derive.specs.Derived.{shownNo}
 use Rattle.layout.specs.Marks.{marked, markedIn, markedAt, listsOf}
 use Rattle.layout.specs.Plans.{keptOf, showsAt, showsOf, columnsOf, roomsOf, startsOf, depOf, needOf, planFor, emptyPlan, checkedOf}
@@ -29,11 +29,11 @@ use Rattle.layout.proofs.Shown.{lists-shown}
 use Rattle.layout.proofs.Chosen.{chosen-at, chosen-past}
 
 -- a loop over the tables, or over the parts, has come to its end
-pub tables-end : (f : ℕ → ℕ) (ws : Words) (k : ℕ) (d a : List ℕ) → k ≤ at ws 0 → at ws 0 ≤ k → a ≡ filled f k d → a ≡ filled f (sheetOf ws .n) d
-tables-end f ws k d a h l e = filled-end f k (at ws 0) d a h l e ∙ ap (λ (n : ℕ). filled f n d) (sym (n-is ws))
+pub tables-end : (f : ℕ → ℕ) (ws : Words) (k : ℕ) (d a : List ℕ) → k ≤ tableCount ws → tableCount ws ≤ k → a ≡ filled f k d → a ≡ filled f (sheetOf ws .n) d
+tables-end f ws k d a h l e = filled-end f k (tableCount ws) d a h l e ∙ ap (λ (n : ℕ). filled f n d) (sym (n-is ws))
 
-pub parts-end : (f : ℕ → ℕ) (ws : Words) (k : ℕ) (d a : List ℕ) → k ≤ at ws 0 + 1 → at ws 0 + 1 ≤ k → a ≡ filled f k d → a ≡ filled f (sheetOf ws .n + 1) d
-parts-end f ws k d a h l e = filled-end f k (at ws 0 + 1) d a h l e ∙ ap (λ (n : ℕ). filled f (n + 1) d) (sym (n-is ws))
+pub parts-end : (f : ℕ → ℕ) (ws : Words) (k : ℕ) (d a : List ℕ) → k ≤ tableCount ws + 1 → tableCount ws + 1 ≤ k → a ≡ filled f k d → a ≡ filled f (sheetOf ws .n + 1) d
+parts-end f ws k d a h l e = filled-end f k (tableCount ws + 1) d a h l e ∙ ap (λ (n : ℕ). filled f (n + 1) d) (sym (n-is ws))
 
 pub shows-none : (ws : Words) (i : ℕ) → hasColumn (sheetOf ws) (i / 8) (i % 8) ≡ false → 0 ≡ showsAt (sheetOf ws) i
 unfolding showsAt
@@ -67,7 +67,7 @@ pub plan-made : (ws : Words) → Rules ws → (root store : ℕ) (kept shows sho
     → root ≡ Meant.root (sheetOf ws) → store ≡ storeLength (sheetOf ws) → kept ≡ keptOf (sheetOf ws) → shows ≡ showsOf (sheetOf ws) → shown ≡ listsOf shows
     → columns ≡ columnsOf (sheetOf ws) → rooms ≡ roomsOf (sheetOf ws) → starts ≡ startsOf (sheetOf ws) → dep ≡ depOf (sheetOf ws) → need ≡ needOf (sheetOf ws)
     → _≡_ {A = Plan}
-    (record { tables = at ws 0; root = root; store = store; kept = kept; shows = shows; shown = shown; columns = columns; rooms = rooms; starts = starts; dep = dep; need = need })
+    (record { tables = tableCount ws; root = root; store = store; kept = kept; shows = shows; shown = shown; columns = columns; rooms = rooms; starts = starts; dep = dep; need = need })
     (planFor (sheetOf ws))
 unfolding planFor
 plan-made ws r root store kept shows shown columns rooms starts dep need a b c d e f g h i j =

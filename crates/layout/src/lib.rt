@@ -4,10 +4,10 @@ ghost use mathlib.Core.Path.{_≡_};
 ghost use Prim.Native.Nat.{ℕ, _+_, _*_, _≤_, _<_};
 ghost use Rattle.lists.specs.Lists.{at};
 ghost use Rattle.lists.specs.Totals.{one};
-ghost use Rattle.meaning.specs.Sheet.{sheetOf};
+ghost use Rattle.meaning.specs.Sheet.{sheetOf, tableCount};
 ghost use Rattle.meaning.specs.Plan.{columns, size, storeLength};
-ghost use Rattle.words.specs.Rules.{Counts};
-ghost use Rattle.words.specs.Counted.{counted};
+ghost use Rattle.sheet.specs.Rules.{Counts};
+ghost use Rattle.sheet.specs.Counted.{counted};
 ghost use Rattle.sheet.specs.Tree.{GoodSheet};
 ghost use Rattle.layout.specs.Plans.{keptOf, showsAt, showsOf, shownOf, columnsOf, roomsOf, startsOf, depOf, needAt, needOf, planFor, emptyPlan, checkedOf};
 ghost use Rattle.layout.specs.Marks.{marked, markedAt, listsOf};
@@ -63,7 +63,7 @@ fn shows_at(sheet: &[u64], i: u64) -> u64
     requires { ⌜ GoodSheet (now sheet) ⌝ }
     ensures { λ r. ⌜ r ≡ showsAt (sheetOf (now (sheet .entry))) i ⌝ }
 {
-    if !words::has_column(sheet, i / 8, i % 8) {
+    if !sheet::has_column(sheet, i / 8, i % 8) {
         return 0;
     }
     mark_of(derive::is_shown(sheet, i / 8, i % 8))
@@ -133,7 +133,7 @@ fn marks_in(marks: [u64; 64], t: usize) -> usize
 
 // How many columns the rows of a part have: none for an unkept table, the listed columns for the list.
 fn columns_in(sheet: &[u64], kept: [u64; 8], shows: [u64; 64], part: usize) -> usize
-    requires { ⌜ GoodSheet (now sheet) × ((kept ≡ keptOf (sheetOf (now sheet))) × ((shows ≡ showsOf (sheetOf (now sheet))) × (part ≤ at (now sheet) 0))) ⌝ }
+    requires { ⌜ GoodSheet (now sheet) × ((kept ≡ keptOf (sheetOf (now sheet))) × ((shows ≡ showsOf (sheetOf (now sheet))) × (part ≤ tableCount (now sheet)))) ⌝ }
     ensures { λ r. ⌜ r ≡ columns (sheetOf (now (sheet .entry))) part ⌝ }
 {
     if sheet[0] as usize <= part {
@@ -180,7 +180,7 @@ fn rooms_of(sheet: &[u64]) -> [usize; 9]
 
 // How many words a part has room for.
 fn size_of(sheet: &[u64], rooms: [usize; 9], columns: [usize; 9], part: usize) -> usize
-    requires { ⌜ GoodSheet (now sheet) × ((rooms ≡ roomsOf (sheetOf (now sheet))) × ((columns ≡ columnsOf (sheetOf (now sheet))) × (part ≤ at (now sheet) 0))) ⌝ }
+    requires { ⌜ GoodSheet (now sheet) × ((rooms ≡ roomsOf (sheetOf (now sheet))) × ((columns ≡ columnsOf (sheetOf (now sheet))) × (part ≤ tableCount (now sheet)))) ⌝ }
     ensures { λ r. ⌜ (r ≡ size (sheetOf (now (sheet .entry))) part) × (r ≤ 65536) ⌝ }
 {
     rooms[part] * columns[part]

@@ -5,12 +5,13 @@ use mathlib.Core.Path.{_≡_, sym, ap, _∙_}
 use mathlib.Core.List.{_++_}
 use native.Mathlib.Omega.{arith}
 use lib.ListN.{length, drop, replicate, length-drop}
-use Rattle.lists.specs.Lists.{Words, at, flat}
+use Rattle.lists.specs.Lists.{Words, flat}
 use Rattle.lists.specs.Parts.{splice}
 use Rattle.rows.specs.Rows.{Row, Rows, cut}
 use Rattle.rows.specs.Regions.{laid}
 use Rattle.rows.proofs.Cut.{Wide, wide-cut, length-flat, cut-length}
 use Rattle.rows.proofs.Regions.{zeros-are}
+use Rattle.meaning.specs.Sheet.{listedCount}
 use Rattle.walks.specs.Marks.{altered, isMarked}
 use Rattle.walks.proofs.Marks.{length-altered}
 use Rattle.columns.specs.Gives.{gives, given}
@@ -21,7 +22,7 @@ use Rattle.store.specs.Parts.{sizeOf, stopOf, wordsIn, countIn, rowsIn, Kept}
 use Rattle.listpart.specs.Loose.{Behind}
 use Rattle.listpart.proofs.Rewrites.{part-long}
 
-module _ (sheet : Words) (t : ℕ) (r : Row) (marks : Words) (p : Part) (old : Words) (k : Kept p old) (few : countIn p old ≤ p .room) (w : p .columns ≡ at sheet 3) where
+module _ (sheet : Words) (t : ℕ) (r : Row) (marks : Words) (p : Part) (old : Words) (k : Kept p old) (few : countIn p old ≤ p .room) (w : p .columns ≡ listedCount sheet) where
   pub alteredRows : Rows
   alteredRows = altered (isMarked marks) (gives sheet t r) (rowsIn p old)
 

@@ -12,13 +12,13 @@ use Rattle.lists.specs.Parts.{splice}
 use Rattle.rows.specs.Rows.{Row}
 use Rattle.rows.specs.Words.{written}
 use Rattle.rows.proofs.Cut.{cut-length}
-use Rattle.meaning.specs.Sheet.{Sheet, sheetOf}
+use Rattle.meaning.specs.Sheet.{Sheet, sheetOf, listedCount}
 use Rattle.meaning.specs.Meaning.{Way, listRow}
 use Rattle.meaning.specs.Store.{modelOf, sound}
 use Rattle.laws.proofs.Columns.{columns-list, list-row-length}
 use Rattle.laws.proofs.Sheets.{Good}
 use Rattle.laws.proofs.Stores.{sound-get}
-use Rattle.words.specs.Rules.{Rules}
+use Rattle.sheet.specs.Rules.{Rules}
 use Rattle.places.proofs.Stands.{sound-stands}
 use Rattle.columns.proofs.Words.{listed-many}
 use Rattle.store.specs.declared.Part.{Part}
@@ -31,11 +31,11 @@ unfolding rowsIn
 rows-many p ws = cut-length (p .columns) (countIn p ws) (wordsIn p ws)
 
 -- the list's are as wide as the sheet says
-pub row-listed : (ws : Words) (way : Way) → length (listRow (sheetOf ws) way) ≡ at ws 3
+pub row-listed : (ws : Words) (way : Way) → length (listRow (sheetOf ws) way) ≡ listedCount ws
 row-listed ws way = list-row-length (sheetOf ws) way ∙ listed-many ws
 
 module _ (ws : Words) (list : Part) (lies : Lies (sheetOf ws) (sheetOf ws .n) list) where
-  pub list-columns : list .columns ≡ at ws 3
+  pub list-columns : list .columns ≡ listedCount ws
   list-columns = lies .columns-is ∙ columns-list (sheetOf ws) ∙ listed-many ws
 
   pub columns-few : Rules ws → list .columns ≤ 16

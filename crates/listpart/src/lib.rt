@@ -3,11 +3,11 @@ use store::Part;
 ghost use mathlib.Core.Path.{_≡_};
 ghost use Prim.Native.Nat.{ℕ, _*_, _<_, _≤_};
 ghost use lib.ListN.{length};
-ghost use Rattle.lists.specs.Lists.{at};
 ghost use Rattle.lists.specs.Parts.{splice};
 ghost use Rattle.rows.specs.Rows.{sorted};
 ghost use Rattle.rows.specs.Words.{written};
-ghost use Rattle.words.specs.Rules.{Rules};
+ghost use Rattle.meaning.specs.Sheet.{listedCount};
+ghost use Rattle.sheet.specs.Rules.{Rules};
 ghost use Rattle.store.specs.Parts.{stopOf, wordsIn, countIn, Within, Kept, Wrote};
 ghost use Rattle.columns.specs.Gives.{given, Fits};
 ghost use Rattle.listpart.specs.Loose.{Loose, looseRows};
@@ -31,7 +31,7 @@ pub fn give_rows(sheet: &[u64], store: &mut [u64], p: Part, marks: &[u16], t: u6
     requires { ⌜ Rules (now sheet) ⌝ }
     requires { ⌜ Fits (now sheet) t (now r) ⌝ }
     requires { ⌜ Kept p (now store) ⌝ }
-    requires { ⌜ p .columns ≡ at (now sheet) 3 ⌝ }
+    requires { ⌜ p .columns ≡ listedCount (now sheet) ⌝ }
     requires { ⌜ countIn p (now store) ≤ length (now marks) ⌝ }
     ensures { λ _. ⌜ now (store .exit) ≡ splice (now (store .entry)) (p .start) (stopOf p) (given (now (sheet .entry)) t (now (r .entry)) (now (marks .entry)) (countIn p (now (store .entry))) (wordsIn p (now (store .entry)))) ⌝ }
 {

@@ -44,28 +44,41 @@ conditionOf w = record { table = at w 0; column = at w 1; lowest = at w 2; highe
 abbrev pub listedOf : Row → Listed
 listedOf w = record { table = at w 0; column = at w 1 }
 
--- The words: n, e, c, p; n widths; e edges; c conditions; p listed columns; n + 1 rooms. Where each run of them begins
+-- The words: n, e, c, p; n widths; e edges; c conditions; p listed columns; n + 1 rooms. How many there are of each
+abbrev pub tableCount : Words → ℕ
+tableCount ws = at ws 0
+
+abbrev pub edgeCount : Words → ℕ
+edgeCount ws = at ws 1
+
+abbrev pub conditionCount : Words → ℕ
+conditionCount ws = at ws 2
+
+abbrev pub listedCount : Words → ℕ
+listedCount ws = at ws 3
+
+-- where each run of them begins
 abbrev pub edgesAt : Words → ℕ
-edgesAt ws = 4 + at ws 0
+edgesAt ws = 4 + tableCount ws
 
 abbrev pub conditionsAt : Words → ℕ
-conditionsAt ws = edgesAt ws + 4 * at ws 1
+conditionsAt ws = edgesAt ws + 4 * edgeCount ws
 
 abbrev pub listedAt : Words → ℕ
-listedAt ws = conditionsAt ws + 4 * at ws 2
+listedAt ws = conditionsAt ws + 4 * conditionCount ws
 
 abbrev pub roomsAt : Words → ℕ
-roomsAt ws = listedAt ws + 2 * at ws 3
+roomsAt ws = listedAt ws + 2 * listedCount ws
 
 -- what the words of a sheet say
 unfoldable pub sheetOf : Words → Sheet
 sheetOf ws =
     record {
-      n = at ws 0;
-      widths = take (at ws 0) (drop 4 ws);
-      edges = map edgeOf (cut 4 (at ws 1) (drop (edgesAt ws) ws));
-      conditions = map conditionOf (cut 4 (at ws 2) (drop (conditionsAt ws) ws));
-      listed = map listedOf (cut 2 (at ws 3) (drop (listedAt ws) ws));
+      n = tableCount ws;
+      widths = take (tableCount ws) (drop 4 ws);
+      edges = map edgeOf (cut 4 (edgeCount ws) (drop (edgesAt ws) ws));
+      conditions = map conditionOf (cut 4 (conditionCount ws) (drop (conditionsAt ws) ws));
+      listed = map listedOf (cut 2 (listedCount ws) (drop (listedAt ws) ws));
       rooms = drop (roomsAt ws) ws;
     }
 
@@ -86,10 +99,10 @@ hasColumn s t column = ltb t (s .n) && ltb column (width s t)
 -- Refusal 1: the counts are in range, e is n - 1, and the length is right
 unfoldable pub goodCounts : Words → Bool
 goodCounts ws =
-    let n = at ws 0 in
-    let e = at ws 1 in
-    let c = at ws 2 in
-    let p = at ws 3 in
+    let n = tableCount ws in
+    let e = edgeCount ws in
+    let c = conditionCount ws in
+    let p = listedCount ws in
     between 1 8 n && eqb (e + 1) n && between 0 16 c && between 1 16 p && eqb (length ws) (4 + 2 * n + 1 + 4 * e + 4 * c + 2 * p)
 
 -- Refusal 2: each word is within the sheet's rules. An edge's child column is 1 to width - 1, its promise 0 or 1

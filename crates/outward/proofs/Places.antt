@@ -11,12 +11,12 @@ use borrow.Author.Tests.{eq-eqb, ne-eqb}
 use Rattle.lists.specs.Lists.{Words, at, select, from, upTo, placeOf}
 use Rattle.lists.proofs.Truth.{Mem, T→≡, mem-select, upTo-mem}
 use Rattle.lists.proofs.Loops.{getD-filled}
-use Rattle.meaning.specs.Sheet.{sheetOf}
+use Rattle.meaning.specs.Sheet.{sheetOf, tableCount}
 use Rattle.meaning.specs.Plan.{shown}
-use Rattle.words.specs.Counted.{counted}
-use Rattle.words.specs.Rules.{Rules}
+use Rattle.sheet.specs.Counted.{counted}
+use Rattle.sheet.specs.Rules.{Rules}
 use Rattle.laws.proofs.Lists.{select-append}
-use Rattle.words.proofs.Numbers.{length-upTo}
+use Rattle.sheet.proofs.Numbers.{length-upTo}
 use Rattle.layout.specs.Marks.{marked, markedIn}
 use Rattle.layout.specs.Plans.{showsOf}
 use Rattle.layout.proofs.Chosen.{upTo-split}
@@ -39,7 +39,7 @@ place-chosen p n c h t =
     ∙ place-behind c (select p (upTo c)) (select p (from (suc c) (n - c - 1))) (λ k. let l = upTo-mem c c (mem-select p (upTo c) c k .0) in omega arith)
     ∙ length-upTo p c
 
-pub place-is : (ws : Words) → Rules ws → (t c : ℕ) → t < at ws 0 → Mem c (shown (sheetOf ws) t)
+pub place-is : (ws : Words) → Rules ws → (t c : ℕ) → t < tableCount ws → Mem c (shown (sheetOf ws) t)
     → at (placesOf (showsOf (sheetOf ws))) (8 * t + c) ≡ placeOf c (shown (sheetOf ws) t)
 unfolding placesOf placeNo markedIn
 place-is ws r t c h m =

@@ -22,7 +22,7 @@ use Rattle.meaning.specs.Plan.{TablePlan, root, edgeInto, others, dep, need, ne
 use Rattle.laws.proofs.Sheets as Sheets
 use Rattle.laws.proofs.Trees.{child-of}
 use Rattle.derive.proofs.Paths.{dep-edge}
-use Rattle.words.proofs.Numbers.{member-chosen}
+use Rattle.sheet.proofs.Numbers.{member-chosen}
 use Rattle.layout.specs.Plans.{keptOf, keptAt, showsAt, showsOf, depAt, depOf, needAt, needOf, startsOf, roomsOf, planFor, checkedOf}
 use Rattle.layout.specs.Planned.{Planned}
 use Rattle.layout.proofs.Chosen.{filled-same}

@@ -16,8 +16,8 @@ use Rattle.lists.proofs.Loops.{getD-filled}
 use Rattle.meaning.specs.Sheet.{Sheet, sheetOf, sheetRefusal, width, tables}
 use Rattle.meaning.specs.Plan.{TablePlan, dep, need, kept, isShown, shown, tablePlan, goodPlan, noPlan, inOrder, plan}
 use Rattle.meaning.specs.Plan as Meant
-use Rattle.words.proofs.Words.{n-is}
-use Rattle.words.proofs.Numbers.{member-chosen}
+use Rattle.sheet.proofs.Words.{n-is}
+use Rattle.sheet.proofs.Numbers.{member-chosen}
 use Rattle.sheet.proofs.Good.{good-rules}
 use Rattle.layout.specs.Marks.{marked, markedIn}
 use Rattle.layout.proofs.Chosen.{select-narrow}

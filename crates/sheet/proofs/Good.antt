@@ -15,12 +15,12 @@ use Rattle.meaning.specs.Plan.{root}
 use mathlib.Core.List.{List, [], _∷_}
 use mathlib.Core.Logic.{inl, inr}
 use Rattle.meaning.specs.Answers.{unless}
-use Rattle.meaning.specs.Sheet.{Sheet, sheetOf, edgesInto, isRoot, reached, goodCounts, goodWords, goodTree, sheetRefusal}
-use Rattle.words.specs.Counted.{counted}
-use Rattle.words.specs.Rules.{Rules}
-use Rattle.words.proofs.Numbers.{all-upTo, length-upTo}
-use Rattle.words.proofs.Words.{n-is}
-use Rattle.words.proofs.Facts.{counts-facts, rules}
+use Rattle.meaning.specs.Sheet.{Sheet, sheetOf, edgesInto, isRoot, reached, goodCounts, goodWords, goodTree, sheetRefusal, tableCount, edgeCount}
+use Rattle.sheet.specs.Counted.{counted}
+use Rattle.sheet.specs.Rules.{Rules}
+use Rattle.sheet.proofs.Numbers.{all-upTo, length-upTo}
+use Rattle.sheet.proofs.Words.{n-is}
+use Rattle.sheet.proofs.Facts.{counts-facts, rules}
 use Rattle.sheet.specs.Tree.{oneInto, rootNo, reachedNo, GoodSheet}
 use Rattle.sheet.specs.Verdicts.{verdictOf, numberOf}
 use Rattle.sheet.specs.declared.Verdict.the-variants.{Good, Refused}
@@ -28,13 +28,13 @@ use Rattle.sheet.proofs.Into.{joined}
 
 -- all of refusal 3, by number
 pub tree-are : (ws : Words) → Rules ws → goodTree (sheetOf ws)
-    ≡ (eqb (counted (rootNo ws) (at ws 0)) 1 && every (oneInto ws) (at ws 0) && every (reachedNo ws (at ws 1)) (at ws 0))
+    ≡ (eqb (counted (rootNo ws) (tableCount ws)) 1 && every (oneInto ws) (tableCount ws) && every (reachedNo ws (edgeCount ws)) (tableCount ws))
 unfolding goodTree rootNo oneInto reachedNo
 tree-are ws r =
     ap₂ _&&_
-    (ap₂ _&&_ (ap (λ (n : ℕ). eqb (length (select (isRoot s) (upTo n))) 1) (n-is ws) ∙ ap (λ (k : ℕ). eqb k 1) (length-upTo (isRoot s) (at ws 0)))
-    (ap (λ (n : ℕ). all one (upTo n)) (n-is ws) ∙ all-upTo one (at ws 0)))
-    (ap₂ (λ (k n : ℕ). all (reached s k) (upTo n)) last (n-is ws) ∙ all-upTo (reached s (at ws 1)) (at ws 0))
+    (ap₂ _&&_ (ap (λ (n : ℕ). eqb (length (select (isRoot s) (upTo n))) 1) (n-is ws) ∙ ap (λ (k : ℕ). eqb k 1) (length-upTo (isRoot s) (tableCount ws)))
+    (ap (λ (n : ℕ). all one (upTo n)) (n-is ws) ∙ all-upTo one (tableCount ws)))
+    (ap₂ (λ (k n : ℕ). all (reached s k) (upTo n)) last (n-is ws) ∙ all-upTo (reached s (edgeCount ws)) (tableCount ws))
   where
     s : Sheet
     s = sheetOf ws
@@ -42,7 +42,7 @@ tree-are ws r =
     one : ℕ → Bool
     one t = leb (length (edgesInto s t)) 1
 
-    last : s .n - 1 ≡ at ws 1
+    last : s .n - 1 ≡ edgeCount ws
     last = omega (arith, n-is ws, r .counts .edges-right)
 
 module _ (ws : Words) where
@@ -117,11 +117,11 @@ module _ (ws : Words) where
   good-rules h = let t = good-tests h in rules ws (counts-facts ws (t .0)) (t .1 .0)
 
   -- what the tree's test says: one root, and at most one edge into each table
-  pub good-roots : sheetRefusal ws ≡ 0 → (length (select (isRoot (sheetOf ws)) (upTo (sheetOf ws .n))) ≡ 1) × (every (oneInto ws) (at ws 0) ≡ true)
+  pub good-roots : sheetRefusal ws ≡ 0 → (length (select (isRoot (sheetOf ws)) (upTo (sheetOf ws .n))) ≡ 1) × (every (oneInto ws) (tableCount ws) ≡ true)
   unfolding rootNo
   good-roots h =
       let a = and-true _ _ (sym (tree-are ws (good-rules h)) ∙ good-tests h .1 .1) in
-      let b = and-true (eqb (counted (rootNo ws) (at ws 0)) 1) (every (oneInto ws) (at ws 0)) (a .0) in
+      let b = and-true (eqb (counted (rootNo ws) (tableCount ws)) 1) (every (oneInto ws) (tableCount ws)) (a .0) in
       (length-upTo (isRoot (sheetOf ws)) (sheetOf ws .n) ∙ ap (counted (isRoot (sheetOf ws))) (n-is ws) ∙ eqb-true _ _ (b .0), b .1)
 
   -- a good sheet, as facts

@@ -5,11 +5,11 @@ use mathlib.Core.Path.{_≡_}
 use mathlib.Core.Bool.{Bool, true}
 use lib.Dec.{leb}
 use lib.ListN.{length}
-use Rattle.lists.specs.Lists.{Words, at}
-use Rattle.meaning.specs.Sheet.{sheetOf, goesInto, edgesInto, isRoot, reached, sheetRefusal}
+use Rattle.lists.specs.Lists.{Words}
+use Rattle.meaning.specs.Sheet.{sheetOf, goesInto, edgesInto, isRoot, reached, sheetRefusal, tableCount}
 use Rattle.meaning.specs.Plan.{root}
-use Rattle.words.specs.Numbered.{edgeNo}
-use Rattle.words.specs.Rules.{Rules}
+use Rattle.sheet.specs.Numbered.{edgeNo}
+use Rattle.sheet.specs.Rules.{Rules}
 
 -- edge i goes into table t
 unfoldable pub goesNo : Words → ℕ → ℕ → Bool
@@ -30,12 +30,12 @@ reachedNo ws k t = reached (sheetOf ws) k t
 -- the words are within their rules, and at most one edge goes into each table: there is one path to walk
 pub record Joined (ws : Words) : Type 0 where
   pub rules : Rules ws
-  pub one-into : (t : ℕ) → t < at ws 0 → length (edgesInto (sheetOf ws) t) ≤ 1
+  pub one-into : (t : ℕ) → t < tableCount ws → length (edgesInto (sheetOf ws) t) ≤ 1
 
 -- a sheet that is not refused: besides, one table is the root, and each that has no edge into it is that one
 pub record GoodSheet (ws : Words) : Type 0 where
   pub joined : Joined ws
-  pub root-in : root (sheetOf ws) < at ws 0
+  pub root-in : root (sheetOf ws) < tableCount ws
   pub root-is : isRoot (sheetOf ws) (root (sheetOf ws)) ≡ true
-  pub one-root : (t : ℕ) → t < at ws 0 → isRoot (sheetOf ws) t ≡ true → t ≡ root (sheetOf ws)
+  pub one-root : (t : ℕ) → t < tableCount ws → isRoot (sheetOf ws) t ≡ true → t ≡ root (sheetOf ws)
   pub not-refused : sheetRefusal ws ≡ 0

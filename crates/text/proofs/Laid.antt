@@ -16,7 +16,7 @@ use Rattle.meaning.specs.Sheet.{Sheet, sheetOf, sheetRefusal, width}
 use Rattle.meaning.specs.Plan.{TablePlan, kept, isShown, shown, inOrder, tablePlan, goodPlan, noPlan, plan, dep, need}
 use Rattle.laws.proofs.Lists.{at-upTo, length-upTo}
 use Rattle.laws.proofs.Sheets.{Good, good-sheet}
-use Rattle.words.proofs.Numbers.{member-chosen}
+use Rattle.sheet.proofs.Numbers.{member-chosen}
 use Rattle.layout.specs.Marks.{marked, markedIn}
 use Rattle.layout.proofs.Chosen.{select-narrow}
 use Rattle.plans.specs.Answers.{noTable, tableNo, setsOf, numbersOf, laid}

@@ -9,11 +9,11 @@ use lib.Dec.{ltb, leb, eqb, leb→le}
 use lib.ListN.{length, take, length-take}
 use lib.Seq.{take-all}
 use borrow.Author.Tests.{ltb-true, ltb-false}
-use Rattle.lists.specs.Lists.{Words, at, between}
+use Rattle.lists.specs.Lists.{Words, between}
 use Rattle.lists.proofs.Loops.{no}
 use Rattle.lists.proofs.Truth.{isT, and-snd, eqb→≡}
 use Rattle.laws.proofs.Lists.{apart}
-use Rattle.meaning.specs.Sheet.{goodCounts, sheetRefusal}
+use Rattle.meaning.specs.Sheet.{goodCounts, sheetRefusal, tableCount, edgeCount, conditionCount, listedCount}
 use Rattle.meaning.specs.Plan.{plan}
 use Rattle.text.specs.Reading.{Reading, says, isnt}
 use Rattle.text.specs.Readers.{most, firstWords}
@@ -23,10 +23,10 @@ use Rattle.text.specs.Outcomes.{planFor}
 sheet-length : (ws : Words) → goodCounts ws ≡ true → length ws ≤ 145
 unfolding goodCounts
 sheet-length ws h =
-    let n = at ws 0 in
-    let e = at ws 1 in
-    let c = at ws 2 in
-    let p = at ws 3 in
+    let n = tableCount ws in
+    let e = edgeCount ws in
+    let c = conditionCount ws in
+    let p = listedCount ws in
     let k = apart (leb 1 n) (leb n 8 ∷ eqb (e + 1) n ∷ between 0 16 c ∷ between 1 16 p ∷ eqb (length ws) (4 + 2 * n + 1 + 4 * e + 4 * c + 2 * p) ∷ []) (isT h) in
     omega (
       arith,

@@ -12,7 +12,7 @@ use lib.ListN.{length, set, length-append}
 use borrow.Author.Tests.{lt-ltb, le-ltb}
 use Rattle.lists.specs.Lists.{select, from, upTo}
 use Rattle.laws.proofs.Lists.{select-append}
-use Rattle.words.proofs.Numbers.{from-more}
+use Rattle.sheet.proofs.Numbers.{from-more}
 use Rattle.text.specs.Reading.{isSome}
 use Rattle.text.specs.Printing.{decimal, commas, parted, setText, memberText}
 use Rattle.text.specs.Writing.{Wrote}

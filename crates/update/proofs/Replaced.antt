@@ -6,11 +6,11 @@ use mathlib.Core.Bool.{Bool, true, false, not, _||_}
 use mathlib.Core.Logic.{inl, inr, ⊎-elim}
 use lib.Dec.{T, eqb}
 use lib.ListN.{length, getD}
-use Rattle.lists.specs.Lists.{Words, at, all}
+use Rattle.lists.specs.Lists.{Words, all}
 use Rattle.lists.specs.Parts.{splice}
 use Rattle.lists.proofs.Truth.{F→≡, or-inl, or-inr, or-cases, eq→eqb, eqb→≡}
 use Rattle.rows.specs.Rows.{Row, Rows, sameRow, sorted}
-use Rattle.meaning.specs.Sheet.{Sheet, sheetOf}
+use Rattle.meaning.specs.Sheet.{Sheet, sheetOf, listedCount}
 use Rattle.meaning.specs.Plan.{root, kept}
 use Rattle.meaning.specs.Meaning.{Model}
 use Rattle.meaning.specs.Store.{modelOf}
@@ -96,7 +96,7 @@ module _ {ws store : Words} {plan : Plan} {p : Route} (rd : Ready ws store plan 
     by-key Contrary h = λ q. inl (shows-no (sheetOf ws) (modelOf (sheetOf ws) store) t r no-way h q)
 
 -- The marked rows get the new row's columns where they stand, and are settled
-module _ (sheet : Words) (t : ℕ) (r : Row) (marks : Words) (p : Part) (old : Words) (k : Kept p old) (few : countIn p old ≤ p .room) (w : p .columns ≡ at sheet 3)
+module _ (sheet : Words) (t : ℕ) (r : Row) (marks : Words) (p : Part) (old : Words) (k : Kept p old) (few : countIn p old ≤ p .room) (w : p .columns ≡ listedCount sheet)
     (mid : Words) (e : mid ≡ splice old (p .start) (stopOf p) (given sheet t r marks (countIn p old) (wordsIn p old))) where
   rows : Rows
   rows = altered (isMarked marks) (gives sheet t r) (rowsIn p old)

@@ -7,10 +7,9 @@ use ways::Route;
 ghost use mathlib.Core.Path.{_≡_};
 ghost use Prim.Native.Nat.{ℕ, _<_, _≤_};
 ghost use lib.ListN.{length, replicate};
-ghost use Rattle.lists.specs.Lists.{at};
 ghost use Rattle.rows.specs.Rows.{sorted};
-ghost use Rattle.meaning.specs.Sheet.{sheetOf};
-ghost use Rattle.words.specs.Rules.{Rules};
+ghost use Rattle.meaning.specs.Sheet.{sheetOf, listedCount};
+ghost use Rattle.sheet.specs.Rules.{Rules};
 ghost use Rattle.walks.specs.Marks.{altered, isMarked};
 ghost use Rattle.walks.proofs.Updates.{Tied};
 ghost use Rattle.columns.specs.Gives.{gives, Fits};
@@ -60,7 +59,7 @@ fn replace_rows(
     requires { ⌜ Fits (now sheet) table (now row) ⌝ }
     requires { ⌜ Kept list (now store) ⌝ }
     requires { ⌜ countIn list (now store) ≤ list .room ⌝ }
-    requires { ⌜ list .columns ≡ at (now sheet) 3 ⌝ }
+    requires { ⌜ list .columns ≡ listedCount (now sheet) ⌝ }
     requires { ⌜ countIn list (now store) ≤ length (now marks) ⌝ }
     ensures { λ _. ⌜ Wrote list (sorted (altered (isMarked (now (marks .entry))) (gives (now (sheet .entry)) table (now (row .entry))) (rowsIn list (now (store .entry))))) (now (store .entry)) (now (store .exit)) ⌝ }
 {

@@ -9,7 +9,7 @@ use Rattle.meaning.specs.Sheet.{sheetOf}
 use Rattle.meaning.specs.Store.{partRows, rowsAt, modelOf}
 use Rattle.laws.proofs.Sheets.{Good}
 use Rattle.laws.proofs.Stores.{model-many, model-part}
-use Rattle.words.proofs.Words.{n-is}
+use Rattle.sheet.proofs.Words.{n-is}
 use Rattle.places.specs.Stands.{Stands, withPart}
 use Rattle.places.proofs.Models.{with-other}
 use Rattle.places.proofs.Stands.{sound-stands, stands-rows}

@@ -3,8 +3,8 @@
 use Prim.Native.Nat.{_≤_, _+_, _-_, _*_}
 use mathlib.Core.Path.{_≡_, refl, _∙_}
 use lib.ListN.{length}
-use Rattle.lists.specs.Lists.{at}
 use Rattle.rows.proofs.Cut.{row-fits}
+use Rattle.meaning.specs.Sheet.{listedCount}
 use Rattle.columns.specs.Gives.{given}
 use Rattle.columns.proofs.Given.{is-marked, not-marked, given-start, given-stay, given-more}
 use borrow.Author.Needs.{needs}
@@ -21,10 +21,10 @@ abbrev μ-loop : tie.MeasureT-loop
 -- row i is one of the rows
 here : (c : tie.In-loop Inv-loop μ-loop)
     → let st = c .before .before .before .before .before .before in
-    c .before .loop .i * at (st .args .sheet .now) 3 + at (st .args .sheet .now) 3 ≤ length (st .args .s .now)
+    c .before .loop .i * listedCount (st .args .sheet .now) + listedCount (st .args .sheet .now) ≤ length (st .args .s .now)
 here c =
     let st = c .before .before .before .before .before .before in
-    row-fits (at (st .args .sheet .now) 3) (st .args .count) (c .before .loop .i) _ (c .loop-test .taken) (st .pre .1 .1 .0)
+    row-fits (listedCount (st .args .sheet .now)) (st .args .count) (c .before .loop .i) _ (c .loop-test .taken) (st .pre .1 .1 .0)
 
 loop-holds : tie.Need-loop-holds Inv-loop μ-loop
 loop-holds c = (search needs, refl, given-start _ _ _ _ _)

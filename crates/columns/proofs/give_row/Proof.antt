@@ -1,12 +1,12 @@
 -- `give_row` meets its contract. The loop's invariant: the words before k are given, and the rest is as it was.
 -- Assumes nothing.
-use Rattle.lists.specs.Lists.{at}
 use Prim.Native.Nat.{_≤_, _<_, _-_, _*_}
 use mathlib.Core.Path.{_≡_, refl, _∙_}
 use lib.ListN.{length, length-set}
 use Rattle.rows.specs.Words.{row, written}
 use Rattle.rows.proofs.Moves.{written-start}
-use Rattle.words.specs.Numbered.{listingNo}
+use Rattle.meaning.specs.Sheet.{listedCount}
+use Rattle.sheet.specs.Numbered.{listingNo}
 use Rattle.columns.specs.Gives.{gives}
 use Rattle.columns.proofs.Words.{column-in, give-own, give-other}
 use borrow.Author.Needs.{needs}
@@ -124,7 +124,7 @@ same-length : tie.Need-same-length Inv-loop μ-loop
 same-length c = search needs
 
 returns : tie.Need-returns Inv-loop μ-loop
-returns c = let e : c .before .loop .k ≡ at (c .before .before .before .before .before .before .args .sheet .now) 3 = omega arith in c .before .loop .inv .2 ∙ rw e
+returns c = let e : c .before .loop .k ≡ listedCount (c .before .before .before .before .before .before .args .sheet .now) = omega arith in c .before .loop .inv .2 ∙ rw e
 
 pub give-row-spec : {M : Type 1} → statement M
 give-row-spec =

@@ -2,7 +2,7 @@
 -- Assumes nothing.
 use Prim.Native.Nat.{_<_, _≤_, _-_}
 use lib.ListN.{length}
-use Rattle.words.specs.Numbered.{listingNo}
+use Rattle.sheet.specs.Numbered.{listingNo}
 use mathlib.Core.Path.{_≡_}
 use mathlib.Core.Bool.{true}
 use Rattle.lists.specs.Loops.{every}

@@ -12,7 +12,7 @@ use Rattle.derive.proofs.needs.Kinds as needs-kinds
 use Rattle.derive.proofs.+needs.Lts-needs as needs-lts
 use Rattle.derive.proofs.is_other.Reads as is-other-reads
 use Rattle.sheet.proofs.edge_into.Reads as edge-into-reads
-use Rattle.words.proofs.listing_of.Reads as listing-of-reads
+use Rattle.sheet.proofs.listing_of.Reads as listing-of-reads
 use Rattle.derive.proofs.+needs.{statement}
 use Rattle.derive.proofs.+needs.Tie.{close}
 

@@ -2,7 +2,7 @@
 -- Assumes nothing.
 use mathlib.Core.Path.{sym, _∙_}
 use borrow.Author.Tests.{eq-eqb, ne-eqb}
-use Rattle.words.proofs.Numbers.{found, not-found}
+use Rattle.sheet.proofs.Numbers.{found, not-found}
 use Rattle.derive.proofs.Steps.{shown-is}
 use borrow.Author.Needs.{needs}
 use Rattle.derive.proofs.is_shown.Statement.{statement}

@@ -2,8 +2,8 @@
 -- Assumes nothing.
 use Prim.Native.Nat.{_-_, _≤_}
 use mathlib.Core.Path.{_≡_, sym, _∙_, refl}
-use Rattle.words.specs.Counted.{counted}
-use Rattle.words.proofs.Numbers.{counted-hit, counted-miss, counted-end}
+use Rattle.sheet.specs.Counted.{counted}
+use Rattle.sheet.proofs.Numbers.{counted-hit, counted-miss, counted-end}
 use Rattle.qualify.specs.Qualifying.{passesNo}
 use Rattle.fillsides.proofs.Counts.{count-is}
 use Rattle.base.proofs.Lends.{span}

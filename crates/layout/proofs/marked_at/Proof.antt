@@ -2,8 +2,8 @@
 -- Assumes nothing.
 use Prim.Native.Nat.{_≤_, _-_}
 use mathlib.Core.Path.{_≡_}
-use Rattle.words.specs.Counted.{counted}
-use Rattle.words.proofs.Numbers.{counted-hit, counted-miss, counted-end}
+use Rattle.sheet.specs.Counted.{counted}
+use Rattle.sheet.proofs.Numbers.{counted-hit, counted-miss, counted-end}
 use Rattle.layout.specs.Marks.{marked}
 use Rattle.layout.proofs.Steps.{marked-found, marked-past, marked-yes, marked-no}
 use borrow.Author.Needs.{needs}

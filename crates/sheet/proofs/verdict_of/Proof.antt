@@ -2,7 +2,7 @@
 -- Assumes nothing.
 use mathlib.Core.Path.{sym, _∙_}
 use borrow.Author.Tests.{not-true, not-false}
-use Rattle.words.proofs.Facts.{counts-facts, rules}
+use Rattle.sheet.proofs.Facts.{counts-facts, rules}
 use Rattle.sheet.proofs.Good.{refused-1, refused-2, refused-3, passed}
 use borrow.Author.Needs.{needs}
 use Rattle.sheet.proofs.verdict_of.Statement.{statement}

@@ -1,4 +1,0 @@
-pub mod Numbers
-pub mod Words
-pub mod Facts
-pub mod Steps

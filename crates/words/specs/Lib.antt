@@ -1,4 +1,0 @@
-pub mod Counted
-pub mod Numbered
-pub mod Tests
-pub mod Rules
