@@ -1,8 +1,13 @@
 // Oratjolet: a list over tables that stand elsewhere, kept right from a feed of row changes, with a few side tables beside it.
 //
 // All values are 64-bit words. The caller owns every run of words and lends it for the time of a call: the library keeps nothing, allocates nothing,
-// has no state and may be called from any number of threads at once, as long as no two calls share a store. A run is a pointer and its length in words; the
-// pointer is never null, not even where the length is 0, and a store overlaps no other run of the same call.
+// has no state and may be called from any number of threads at once, as long as no two calls share words that one of them writes.
+//
+// What the caller sees to, since no call can test it:
+//   - A run is a pointer and its length in words, all of them the caller's. The words that a call answers in (answer, taken, added, first, count) are lent too.
+//   - No pointer is null, not even that of a run of length 0, and each is aligned as its type asks.
+//   - What a call writes to lies apart from all else that it is lent: the store of fill and of change, answer, taken, added, first and count overlap neither a
+//     run nor each other. Runs that are only read may overlap.
 //
 // Every call takes any words and ends. It returns a number: 0 if the call is accepted, otherwise that of the refusal below. A refused call alters no word of
 // the store. On the stack, plan, show and change stay under 64 KiB and fill under 2 MiB.
@@ -52,8 +57,8 @@ struct oratjolet_answer {
     uint64_t columns[8][8]; // columns[t][c] is 1 if table t's side table shows column c
     uint64_t dep[8][8];     // dep[t][u] is 1 if u is a parent of t along a promised edge
     uint64_t need[8][8];    // need[t][u] is 1 if t needs u
-    uint64_t starts[8];     // where in the store table t's side table begins
-    uint64_t rooms[8];      // for how many rows it has room
+    uint64_t starts[8];     // where in the store table t's part begins, which is what show answers as *first; an unkept table's part has no words
+    uint64_t rooms[8];      // table t's room word in the sheet, kept or not: for how many rows its side table has room, if it has one
 };
 
 // Derives the side tables and the store's length from a sheet (refusals 1 to 3). If it is refused, every field but the number is zero.
@@ -71,7 +76,8 @@ uint64_t oratjolet_change(const uint64_t *sheet, size_t sheet_length, uint64_t *
 
 // Where the rows of a part stand: a table's side table (0 to n - 1) or the list (n). They are the *count words of the store from *first on, in rising
 // order; none for a table without a side table, and none if the call is refused (1 to 5 and 7).
-uint64_t oratjolet_show(const uint64_t *sheet, size_t sheet_length, const uint64_t *store, size_t store_length, uint64_t part, uint64_t *first, uint64_t *count);
+uint64_t oratjolet_show(const uint64_t *sheet, size_t sheet_length, const uint64_t *store, size_t store_length, uint64_t part,
+                        uint64_t *first, uint64_t *count);
 
 #ifdef __cplusplus
 }

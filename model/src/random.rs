@@ -84,8 +84,10 @@ impl Random {
 /// How large random calls may become.
 #[derive(Clone, Copy, Debug)]
 pub struct Size {
-    /// Rows of one base table.
+    /// Rows of one base table other than the root's.
     pub rows: usize,
+    /// Rows of the root's base table. They share their parents, so that one change touches many list rows.
+    pub root_rows: usize,
     /// Words of the store.
     pub words: usize,
     /// How often, in percent, a sheet has more than five tables.
@@ -94,12 +96,22 @@ pub struct Size {
 
 pub const SMALL: Size = Size {
     rows: 5,
+    root_rows: 7,
     words: 150,
     many_tables: 12,
 };
 
 pub const BIG: Size = Size {
     rows: 40,
+    root_rows: 42,
     words: 3000,
     many_tables: 35,
+};
+
+/// Few parents with hundreds of children: a change of a parent takes, adds or replaces a large share of the list.
+pub const CROWDED: Size = Size {
+    rows: 4,
+    root_rows: 900,
+    words: 50_000,
+    many_tables: 0,
 };

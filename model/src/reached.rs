@@ -2,10 +2,12 @@
 
 use crate::base::Change;
 use crate::change::{step, ways_can_be_taken};
+use crate::frame::REPLY;
 use crate::plan::Plan;
 use crate::random::calls::Call;
 use crate::random::changes::Words;
 use crate::store::Contents;
+use crate::Row;
 use std::collections::BTreeMap;
 
 /// How often each thing was reached.
@@ -39,7 +41,7 @@ impl Reached {
                 sheet,
                 store,
                 change,
-            } if number == 0 || number == 8 => self.note_change(sheet, store, change, outcome),
+            } if [0, 8, 9].contains(&number) => self.note_change(sheet, store, change, outcome),
             Call::Show { sheet, part, .. } if number == 0 => {
                 let n = sheet[0];
                 let what = if *part == n { "list" } else { "side table" };
@@ -50,8 +52,10 @@ impl Reached {
                 };
                 self.count(format!("show: {what} {rows}"));
             }
-            Call::Fill { .. } if number == 0 && outcome[2] > 1 => {
-                self.count("fill: several rows on the list".to_string());
+            Call::Fill { .. } if number == 0 => {
+                for many in list_rows(outcome[2] as usize) {
+                    self.count(format!("fill: {many}"));
+                }
             }
             _ => {}
         }
@@ -99,25 +103,44 @@ impl Reached {
         let before = Contents::read(&plan, store).expect("a sound store");
         let change = change_of(words);
         let kind = ["insert", "delete", "update"][change.kind() as usize - 1];
-        if let Err(contradiction) = step(&plan, &before, &change) {
-            self.count(format!("{kind}: {contradiction:?}"));
-            return;
-        }
-        let (taken, added) = (outcome[1], outcome[2]);
-        let many = |rows: u64| match rows {
-            0 => "no list rows",
-            1 => "a list row",
-            _ => "several list rows",
+        let step = match step(&plan, &before, &change) {
+            Ok(step) => step,
+            Err(contradiction) => return self.count(format!("{kind}: {contradiction:?}")),
         };
         let way = match change.kind() {
-            3 if ways_can_be_taken(&plan, change.table()) => " by ways",
-            3 if plan.sheet.lists(change.table(), 0) => " by its own key",
-            3 => " by a child's key",
-            _ => "",
+            3 if ways_can_be_taken(&plan, change.table()) => "update by ways",
+            3 if plan.sheet.lists(change.table(), 0) => "update by its own key",
+            3 => "update by a child's key",
+            _ => kind,
         };
-        self.count(format!("{kind}{way}: {}", many(taken.max(added))));
-        if outcome[4..] == *store {
-            self.count(format!("{kind}{way}: store as it was"));
+        let changed = step.taken.max(step.added);
+        if outcome[0] == 9 {
+            for many in list_rows(changed) {
+                self.count(format!("{way}: no room, {many}"));
+            }
+            return;
+        }
+        for many in list_rows(changed) {
+            self.count(format!("{way}: {many}"));
+        }
+        if outcome[REPLY..] == *store {
+            self.count(format!("{way}: store as it was"));
+        }
+        self.note_places(way, &before.list, &step.after.list, changed);
+    }
+
+    /// Notes a change of many list rows that changes them all, or moves others. The list after it comes unsorted.
+    fn note_places(&mut self, way: &str, before: &[Row], after: &[Row], changed: usize) {
+        if changed > 16 && changed == before.len().max(after.len()) {
+            self.count(format!("{way}: all list rows, more than 16"));
+        }
+        let mut after = after.to_vec();
+        after.sort();
+        let places = before.iter().zip(&after);
+        let differ = places.filter(|(old, new)| old != new).count();
+        // If only rows that were replaced stood elsewhere, no more places could differ.
+        if way.starts_with("update") && changed > 100 && differ > changed {
+            self.count(format!("{way}: more than 100 list rows, others move"));
         }
     }
 
@@ -143,6 +166,19 @@ impl Reached {
             println!("{times:>9} {what}");
         }
     }
+}
+
+/// How many list rows these are, by every name that fits.
+fn list_rows(count: usize) -> Vec<&'static str> {
+    let names = [
+        (count == 0, "no list rows"),
+        (count == 1, "a list row"),
+        (count > 1, "several list rows"),
+        (count > 16, "more than 16 list rows"),
+        (count > 100, "more than 100 list rows"),
+    ];
+    let fitting = names.into_iter().filter(|(fits, _)| *fits);
+    fitting.map(|(_, name)| name).collect()
 }
 
 /// The change of words that no call turns down by 5.
@@ -179,9 +215,15 @@ fn wanted() -> Vec<String> {
             "no list rows",
             "a list row",
             "several list rows",
+            "more than 16 list rows",
+            "more than 100 list rows",
+            "all list rows, more than 16",
             "store as it was",
         ] {
             wanted.push(format!("{way}: {what}"));
+        }
+        if way.starts_with("update") {
+            wanted.push(format!("{way}: more than 100 list rows, others move"));
         }
     }
     let others = [
@@ -196,7 +238,10 @@ fn wanted() -> Vec<String> {
         "show: list with rows",
         "show: side table empty",
         "show: side table with rows",
-        "fill: several rows on the list",
+        "fill: no list rows",
+        "fill: several list rows",
+        "fill: more than 100 list rows",
+        "insert: no room, more than 100 list rows",
         "insert: KeyStands",
         "delete: RowMissing",
         "delete: UnqualifiedStands",

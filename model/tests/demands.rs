@@ -8,7 +8,7 @@ use model::plan::{plan_call, Plan};
 use model::random::calls::{any_call, Call};
 use model::random::changes::{lawful_change, Words};
 use model::random::scene::{Rooms, Scene};
-use model::random::{Random, Size, BIG, SMALL};
+use model::random::{Random, Size, BIG, CROWDED, SMALL};
 use model::store::{show_call, Contents};
 use std::collections::BTreeMap;
 
@@ -95,6 +95,9 @@ fn check_lawful(scene: &mut Scene, change: &Change, reached: &mut Reached) {
         if taken.max(added) > 1 {
             reached.count(format!("lawful {kind} with many list rows{way}"));
         }
+        if taken.max(added) > 100 {
+            reached.count(format!("lawful {kind} with hundreds of list rows{way}"));
+        }
     } else if outcome.store != scene.store {
         reached.count(format!("lawful {kind} in a side table alone"));
     } else {
@@ -160,6 +163,18 @@ fn demand_3_on_big_scenes() {
     let reached = demand_3(4, 60, 30, BIG);
     reached.demand("lawful 3 with list rows written by ways", 5);
     reached.demand("lawful 3 with list rows written by key, 0 steps", 5);
+}
+
+#[test]
+fn demand_3_on_crowded_scenes() {
+    let reached = demand_3(6, 400, 10, CROWDED);
+    reached.demand("lawful 1 with hundreds of list rows", 10);
+    reached.demand("lawful 2 with hundreds of list rows", 20);
+    reached.demand("lawful 3 with hundreds of list rows by ways", 20);
+    for steps in 0..=2 {
+        let found = "lawful 3 with hundreds of list rows by key";
+        reached.demand(&format!("{found}, {steps} steps"), 10);
+    }
 }
 
 /// What a change call that was accepted or refused with 8 or 9 did.

@@ -157,9 +157,9 @@ pub struct TablePlan {
     pub dep: Vec<usize>,
     /// The tables that it needs.
     pub need: Vec<usize>,
-    /// Where its side table begins in the store.
+    /// Where its part of the store begins; without a side table the part has no words.
     pub start: u64,
-    /// How many rows its side table has room for.
+    /// The sheet's room word for it: how many rows its side table has room for, if it has one.
     pub room: u64,
 }
 
@@ -180,7 +180,7 @@ pub struct Plan {
 /// ```
 pub fn plan(sheet: &[u64]) -> Result<Plan, Refusal> {
     let mut words = [0u64; 220];
-    // The pointers are those of live slices, and `words` has the 220 words that the call writes.
+    // A slice's pointer is aligned and never null, not even an empty one's. The call writes the 220 words of `words`: our own, and so apart from the sheet.
     let number = unsafe { ffi::oratjolet_plan(sheet.as_ptr(), sheet.len(), words.as_mut_ptr()) };
     let set = |from: usize, t: usize| (0..8).filter(|x| words[from + 8 * t + x] == 1).collect();
     let tables = (0..words[1] as usize)
@@ -206,7 +206,7 @@ pub fn plan(sheet: &[u64]) -> Result<Plan, Refusal> {
 /// The fill call: the base tables' rows into a store, whatever it held.
 pub fn fill(sheet: &[u64], base: &[u64], store: &mut [u64]) -> Result<Answer, Refusal> {
     let mut answer = Answer::default();
-    // The pointers are those of live slices; `store` is borrowed alone, so it overlaps none of the others.
+    // As for plan; `store` is borrowed for writing, so it overlaps none of the other slices, and the two words of `answer` are our own.
     let number = unsafe {
         ffi::oratjolet_fill(
             sheet.as_ptr(),
@@ -255,7 +255,7 @@ pub fn change(
 /// The show call: the stretch of the store that holds a side table's rows, or at n the list's.
 pub fn show<'a>(sheet: &[u64], store: &'a [u64], part: u64) -> Result<&'a [u64], Refusal> {
     let (mut first, mut count) = (0, 0);
-    // As for plan.
+    // As for plan: the store is only read, and the two words are our own.
     let number = unsafe {
         ffi::oratjolet_show(
             sheet.as_ptr(),

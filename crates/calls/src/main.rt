@@ -308,12 +308,12 @@ fn complain(text: &[u8]) {
     io::write_all(STDERR_FILENO, b"\n");
 }
 
-// The largest of each run: a sheet of 1,024 words, base tables of 131,072, a store of 65,536, rows of 64.
+// The largest of each run: a sheet of 1,024 words, base tables of 131,072, a store of 196,608, rows of 64. Every good store fits, not every base run.
 fn main() {
     let mut bytes = [0u8; 32768];
     let mut sheet = [0u64; 1024];
     let mut base = [0u64; 131072];
-    let mut store = [0u64; 65536];
+    let mut store = [0u64; 196608];
     let mut old = [0u64; 64];
     let mut new = [0u64; 64];
     let step = serve(

@@ -6,7 +6,7 @@
 use model::frame::{outcome, words, REPLY};
 use model::random::calls::{any_call, Call};
 use model::random::chains::Chain;
-use model::random::{Random, Size, BIG, SMALL};
+use model::random::{Random, Size, BIG, CROWDED, SMALL};
 use model::reached::{name, Reached, CALLS};
 use std::io::{Read, Write};
 use std::process::{ChildStdin, Command, ExitCode, Stdio};
@@ -119,13 +119,21 @@ fn feed(
     reached
 }
 
-/// The next call of a chain, now and then a new chain, or a call by itself.
-fn next_case(random: &mut Random, chain: &mut Option<Chain>) -> Case {
-    let size: Size = match random.chance(2) {
+/// Mostly small, now and then big, and crowded in so many of a hundred.
+fn size(random: &mut Random, crowded: usize) -> Size {
+    if random.chance(crowded) {
+        return CROWDED;
+    }
+    match random.chance(2) {
         true => BIG,
         false => SMALL,
-    };
-    if random.chance(10) && chain.is_none() {
+    }
+}
+
+/// The next call of a chain, now and then a new chain, or a call by itself.
+fn next_case(random: &mut Random, chain: &mut Option<Chain>) -> Case {
+    if chain.is_none() && random.chance(10) {
+        let size = size(random, 40);
         *chain = Some(Chain::new(random, size));
     }
     if let Some(link) = chain.as_mut().and_then(|chain| chain.next(random)) {
@@ -136,6 +144,7 @@ fn next_case(random: &mut Random, chain: &mut Option<Chain>) -> Case {
         };
     }
     *chain = None;
+    let size = size(random, 2);
     let call = any_call(random, size);
     Case {
         outcome: outcome(&call),

@@ -1,6 +1,6 @@
 //! Random changes: lawful ones, ones that stray from the base or the store, and ones of the wrong shape.
 
-use super::rows::{keys, row, value};
+use super::rows::{keys, row, unpromised_parents, value};
 use super::{Random, APART};
 use crate::base::{is_lawful_change, Base, Change};
 use crate::plan::Plan;
@@ -33,13 +33,13 @@ pub fn lawful_change(random: &mut Random, plan: &Plan, base: &Base) -> Option<Ch
         let kind = random.below(10);
         let table = match kind >= 6 {
             true => alterable_table(random, plan),
-            false => random.below(plan.tables()),
+            false => movable_table(random, plan),
         };
         let rows = &base[table];
         let change = match kind {
             0..=3 => Change::Insert {
                 table,
-                new: row(random, plan, table, &keys(base)),
+                new: new_row(random, plan, base, table),
             },
             4..=5 if !rows.is_empty() => Change::Delete {
                 table,
@@ -57,6 +57,29 @@ pub fn lawful_change(random: &mut Random, plan: &Plan, base: &Base) -> Option<Ch
         }
     }
     None
+}
+
+/// A table for an insert or a delete: any, but often one whose rows may come and go under their children.
+fn movable_table(random: &mut Random, plan: &Plan) -> usize {
+    let parents = unpromised_parents(plan);
+    match !parents.is_empty() && random.chance(40) {
+        true => random.pick(&parents),
+        false => random.below(plan.tables()),
+    }
+}
+
+/// A row to insert; perhaps one that rows of its child wait for.
+fn new_row(random: &mut Random, plan: &Plan, base: &Base, table: usize) -> Row {
+    let mut new = row(random, plan, table, &keys(base));
+    if let Some(edge) = plan.sheet.edges_into(table).find(|edge| !edge.promised) {
+        let stands = |key: u64| base[table].iter().any(|row| row[0] == key);
+        let wanted = base[edge.child].iter().map(|row| row[edge.column]);
+        let waited_for: Vec<u64> = wanted.filter(|&key| !stands(key)).collect();
+        if !waited_for.is_empty() && random.chance(70) {
+            new[0] = random.pick(&waited_for);
+        }
+    }
+    new
 }
 
 /// Mostly a table with a listed column that an update may alter.

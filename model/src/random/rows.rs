@@ -1,6 +1,6 @@
 //! Random rows that often join and often meet the conditions, and lawful base tables of them.
 
-use super::Random;
+use super::{Random, Size, APART};
 use crate::base::{is_lawful_change, Base, Change};
 use crate::list::root_first;
 use crate::plan::Plan;
@@ -73,25 +73,39 @@ pub fn parents_first(plan: &Plan) -> Vec<usize> {
     order
 }
 
-/// Lawful base tables, built by lawful inserts alone.
-pub fn lawful_base(random: &mut Random, plan: &Plan, rows: usize) -> Base {
+/// A key out of enough that so many rows can each have their own; some are equal in the low 32 bits.
+fn own_key(random: &mut Random, rows: usize) -> u64 {
+    let key = random.below(4 * rows) as u64;
+    match random.chance(20) {
+        true => key + APART,
+        false => key,
+    }
+}
+
+/// Lawful base tables, built by lawful inserts alone; perhaps without a parent that children on an unpromised edge refer to.
+pub fn lawful_base(random: &mut Random, plan: &Plan, size: Size) -> Base {
     let mut base: Base = vec![Vec::new(); plan.tables()];
     let few = random.chance(10);
     for table in parents_first(plan) {
-        // Rows of the root share their parents, so that one change touches many list rows.
-        let rows = match table == plan.root {
-            true => rows + 2,
-            false => rows,
+        let (rows, few) = match table == plan.root {
+            true => (size.root_rows, few && random.chance(50)),
+            false => (size.rows, few),
         };
         let tries = match few {
             true => random.between(0, 2),
             false => random.between(rows / 2, rows + 1),
         };
+        let parents = keys(&base);
+        let key_is_free = !plan.sheet.tied(table, 0);
         for _ in 0..tries {
             if base[table].len() == rows {
                 break;
             }
-            let new = row(random, plan, table, &keys(&base));
+            let mut new = row(random, plan, table, &parents);
+            // The values that are drawn otherwise are too few for many keys.
+            if table == plan.root && key_is_free && random.chance(80) {
+                new[0] = own_key(random, rows);
+            }
             let insert = Change::Insert {
                 table,
                 new: new.clone(),
@@ -101,8 +115,29 @@ pub fn lawful_base(random: &mut Random, plan: &Plan, rows: usize) -> Base {
             }
         }
     }
+    if random.chance(40) {
+        leave_children_waiting(random, plan, &mut base);
+    }
     for rows in &mut base {
         random.shuffle(rows);
     }
     base
+}
+
+/// The tables whose edge isn't promised: their rows may come and go under their children, and many list rows with them.
+pub fn unpromised_parents(plan: &Plan) -> Vec<usize> {
+    let unpromised = plan.sheet.edges.iter().filter(|edge| !edge.promised);
+    unpromised.map(|edge| edge.parent).collect()
+}
+
+/// Takes a row from one of these tables, if there is one.
+fn leave_children_waiting(random: &mut Random, plan: &Plan, base: &mut Base) {
+    let tables = unpromised_parents(plan);
+    if tables.is_empty() {
+        return;
+    }
+    let rows = &mut base[random.pick(&tables)];
+    if !rows.is_empty() {
+        rows.remove(random.below(rows.len()));
+    }
 }

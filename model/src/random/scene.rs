@@ -32,17 +32,22 @@ impl Scene {
     pub fn new(random: &mut Random, size: Size, rooms: Rooms) -> Scene {
         loop {
             let mut sheet = good_sheet(random, size);
-            let rows = match sheet.tables() > 5 {
-                true => size.rows * 3 / 5,
-                false => size.rows,
-            };
+            let mut size = size;
+            if sheet.tables() > 5 {
+                size.rows = size.rows * 3 / 5;
+                size.root_rows = size.root_rows * 3 / 5;
+            }
             let plan = Plan::of(sheet.clone());
-            let base = lawful_base(random, &plan, rows);
+            let base = lawful_base(random, &plan, size);
             let contents = meaning(&plan, &base);
             let mut counts: Vec<usize> = contents.sides.iter().map(Vec::len).collect();
             counts.push(contents.list.len());
-            for (room, count) in sheet.rooms.iter_mut().zip(counts) {
-                let more = random.pick(&[0, 0, 1, 1, 1, 2, 2, 3, rows]);
+            for (part, (room, count)) in sheet.rooms.iter_mut().zip(counts).enumerate() {
+                let many = match part == plan.root || part == plan.tables() {
+                    true => size.root_rows,
+                    false => size.rows,
+                };
+                let more = random.pick(&[0, 0, 1, 1, 1, 2, 3, many, many]);
                 *room = match rooms {
                     Rooms::Short if random.chance(25) => count.saturating_sub(1),
                     _ => count + more,

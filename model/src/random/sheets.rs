@@ -191,6 +191,15 @@ fn listed(random: &mut Random, style: Style, widths: &[usize], edges: &[Edge]) -
         first.push(Listed { table, column });
     }
     random.shuffle(&mut first);
+    // Columns that an update may alter decide the order of list rows only where keys, and columns equal to keys, come behind them.
+    if random.chance(40) {
+        let child = |one: &Listed| {
+            edges
+                .iter()
+                .any(|edge| edge.child == one.table && edge.column == one.column)
+        };
+        first.sort_by_key(|one| one.column == 0 || child(one));
+    }
     first
 }
 
