@@ -8,7 +8,8 @@ use borrow.Author.Tests.{leb-true, ltb-true, eqb-true, le-leb, lt-ltb, eq-eqb}
 use Rattle.lists.specs.Lists.{Words, at, between, all, noneTwice}
 use Rattle.lists.specs.Loops.{every, some}
 use Rattle.lists.proofs.Loops.{and-true, every-at}
-use Rattle.meaning.specs.Sheet.{sheetOf, hasColumn, width, goodCounts, goodEdge, goodCondition, goodListed, goodWords, sameListed, roomsAt, tableCount, edgeCount, conditionCount, listedCount}
+use Rattle.meaning.specs.Sheet.{tableCount, edgeCount, conditionCount, listedCount, sheetOf, hasColumn, width}
+use Rattle.meaning.specs.Sheet.{goodCounts, goodEdge, goodCondition, goodListed, goodWords, sameListed}
 use Rattle.sheet.specs.Numbered.{edgeNo, conditionNo, listingNo, widthNo, roomNo}
 use Rattle.sheet.specs.Rules.{Counts, Within, Column, EdgeRules, ConditionRules, ListingRules, Named, Rules}
 use Rattle.sheet.specs.Tests.{widthPasses, edgePasses, conditionPasses, listingPasses, listingNames, roomPasses}
@@ -124,7 +125,8 @@ named-make ws t c i h = rw (eq-eqb _ _ (h .table), eq-eqb _ _ (h .column))
 
 -- all of refusal 2, by number
 pub words-are : (ws : Words) → Counts ws → goodWords (sheetOf ws)
-    ≡ (every (widthPasses ws) (tableCount ws) && every (edgePasses ws) (edgeCount ws) && every (conditionPasses ws) (conditionCount ws) && every (listingPasses ws) (listedCount ws)
+    ≡ (every (widthPasses ws) (tableCount ws) && every (edgePasses ws) (edgeCount ws) && every (conditionPasses ws) (conditionCount ws)
+    && every (listingPasses ws) (listedCount ws)
     && every (roomPasses ws) (tableCount ws + 1))
 unfolding goodWords widthPasses edgePasses conditionPasses listingPasses listingNames roomPasses
 words-are ws c =
@@ -140,7 +142,10 @@ words-are ws c =
     ∙ both-listed
   where
     w : Bool
-    w = every (λ i. between 1 8 (widthNo ws i)) (tableCount ws) && every (λ i. goodEdge (sheetOf ws) (edgeNo ws i)) (edgeCount ws) && every (λ i. goodCondition (sheetOf ws) (conditionNo ws i)) (conditionCount ws)
+    w =
+        every (λ i. between 1 8 (widthNo ws i)) (tableCount ws)
+        && every (λ i. goodEdge (sheetOf ws) (edgeNo ws i)) (edgeCount ws)
+        && every (λ i. goodCondition (sheetOf ws) (conditionNo ws i)) (conditionCount ws)
 
     l : ℕ → Bool
     l i = goodListed (sheetOf ws) (listingNo ws i)

@@ -179,4 +179,6 @@ pub member-chosen : (p : ℕ → Bool) (w c : ℕ) → member c (select p (upTo 
 member-chosen p w c =
     same-test (member c (select p (upTo w))) (ltb c w && p c)
     (λ m. let x = mem-select p (upTo w) c (member→Mem c (select p (upTo w)) m) in and-both (ltb c w) (p c) (isT (lt-ltb c w (upTo-mem w c (x .0)))) (x .1))
-    (λ m. Mem→member c (select p (upTo w)) (select-mem p (upTo w) c (mem-upTo w c (ltb-true c w (T→≡ (ltb c w) (and-fst (ltb c w) (p c) m)))) (and-snd (ltb c w) (p c) m)))
+    (λ m.
+    let below = ltb-true c w (T→≡ (ltb c w) (and-fst (ltb c w) (p c) m)) in
+    Mem→member c (select p (upTo w)) (select-mem p (upTo w) c (mem-upTo w c below) (and-snd (ltb c w) (p c) m)))

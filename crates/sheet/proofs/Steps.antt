@@ -11,7 +11,8 @@ use Rattle.sheet.specs.Tests.{edgePasses, conditionPasses, listingNames,
 use Rattle.sheet.proofs.Numbers.{found, not-found}
 
 -- a column that was read is the one that the sheet names
-pub column-read : (ws : Words) (t u column named : ℕ) (b : Bool) → t ≡ u → column ≡ named → b ≡ hasColumn (sheetOf ws) t column → hasColumn (sheetOf ws) u named ≡ b
+pub column-read : (ws : Words) (t u column named : ℕ) (b : Bool) → t ≡ u → column ≡ named
+    → b ≡ hasColumn (sheetOf ws) t column → hasColumn (sheetOf ws) u named ≡ b
 column-read ws t u column named b p q e = sym (e ∙ ap₂ (hasColumn (sheetOf ws)) p q)
 
 module _ (ws : Words) (k : ℕ) where
@@ -27,7 +28,8 @@ module _ (ws : Words) (k : ℕ) where
   unfolding listingPasses goodListed
   listing-absent h = rw h
 
-  pub listing-again : (t c i : ℕ) → t ≡ listingNo ws k .table → c ≡ listingNo ws k .column → i ≡ first (listingNames ws t c) k → i < k → false ≡ listingPasses ws k
+  pub listing-again : (t c i : ℕ) → t ≡ listingNo ws k .table → c ≡ listingNo ws k .column
+      → i ≡ first (listingNames ws t c) k → i < k → false ≡ listingPasses ws k
   unfolding listingPasses
   listing-again t c i p q x h =
       let e = x ∙ ap₂ (λ (a b : ℕ). first (listingNames ws a b) k) p q in

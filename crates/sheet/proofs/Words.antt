@@ -13,7 +13,8 @@ use Rattle.lists.specs.Lists.{Words, at, from, upTo}
 use Rattle.lists.proofs.Places.{length-from, getD-map-from}
 use Rattle.rows.specs.Rows.{Row, Rows, cut}
 use Rattle.rows.proofs.Cut.{cut-zero, cut-suc, cut-split}
-use Rattle.meaning.specs.Sheet.{sheetOf, edgeOf, conditionOf, listedOf, width, room, edgesAt, conditionsAt, listedAt, roomsAt, tableCount, edgeCount, conditionCount, listedCount}
+use Rattle.meaning.specs.Sheet.{tableCount, edgeCount, conditionCount, listedCount, edgesAt, conditionsAt, listedAt, roomsAt}
+use Rattle.meaning.specs.Sheet.{sheetOf, edgeOf, conditionOf, listedOf, width, room}
 use Rattle.sheet.specs.Numbered.{widthNo, edgeNo, conditionNo, listingNo, roomNo}
 use Rattle.sheet.specs.Rules.{Counts}
 use Rattle.sheet.proofs.Numbers.{up-more}
@@ -38,7 +39,8 @@ records f g w k a ws h =
 
 -- a row of four words, and of two
 four : {A : Type 0} (f : ℕ → ℕ → ℕ → ℕ → A) (i a : ℕ) (ws : Words) →
-    f (at (take 4 (drop (i * 4) (drop a ws))) 0) (at (take 4 (drop (i * 4) (drop a ws))) 1) (at (take 4 (drop (i * 4) (drop a ws))) 2) (at (take 4 (drop (i * 4) (drop a ws))) 3)
+    let row = take 4 (drop (i * 4) (drop a ws)) in
+    f (at row 0) (at row 1) (at row 2) (at row 3)
     ≡ f (at ws (a + 4 * i)) (at ws (a + 4 * i + 1)) (at ws (a + 4 * i + 2)) (at ws (a + 4 * i + 3))
 four f i a ws =
     rw (

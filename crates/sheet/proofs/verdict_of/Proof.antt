@@ -18,16 +18,40 @@ words-ok-requires : tie.Need-words-ok-requires
 words-ok-requires c κs = counts-facts _ (sym (c .before .counts-ok .ensures) ∙ not-false _ (c .if1 .left))
 
 returns-2 : tie.Need-returns-2
-returns-2 c = refused-2 _ (sym (c .before .before .before .counts-ok .ensures) ∙ not-false _ (c .before .before .if1 .left)) (sym (c .before .words-ok .ensures) ∙ not-true _ (c .if2 .taken))
+returns-2 c =
+    let at-words-ok = c .before in
+    let at-if1 = at-words-ok .before in
+    let at-counts-ok = at-if1 .before in
+    refused-2 _ (sym (at-counts-ok .counts-ok .ensures) ∙ not-false _ (at-if1 .if1 .left))
+    (sym (at-words-ok .words-ok .ensures) ∙ not-true _ (c .if2 .taken))
 
 tree-ok-requires : tie.Need-tree-ok-requires
-tree-ok-requires c κs = rules _ (counts-facts _ (sym (c .before .before .before .counts-ok .ensures) ∙ not-false _ (c .before .before .if1 .left))) (sym (c .before .words-ok .ensures) ∙ not-false _ (c .if2 .left))
+tree-ok-requires c κs =
+    let at-words-ok = c .before in
+    let at-if1 = at-words-ok .before in
+    let at-counts-ok = at-if1 .before in
+    rules _ (counts-facts _ (sym (at-counts-ok .counts-ok .ensures) ∙ not-false _ (at-if1 .if1 .left)))
+    (sym (at-words-ok .words-ok .ensures) ∙ not-false _ (c .if2 .left))
 
 returns-3 : tie.Need-returns-3
-returns-3 c = refused-3 _ (sym (c .before .before .before .before .before .counts-ok .ensures) ∙ not-false _ (c .before .before .before .before .if1 .left)) (sym (c .before .before .before .words-ok .ensures) ∙ not-false _ (c .before .before .if2 .left)) (sym (c .before .tree-ok .ensures) ∙ not-true _ (c .if3 .taken))
+returns-3 c =
+    let at-tree-ok = c .before in
+    let at-if2 = at-tree-ok .before in
+    let at-words-ok = at-if2 .before in
+    let at-if1 = at-words-ok .before in
+    let at-counts-ok = at-if1 .before in
+    refused-3 _ (sym (at-counts-ok .counts-ok .ensures) ∙ not-false _ (at-if1 .if1 .left))
+    (sym (at-words-ok .words-ok .ensures) ∙ not-false _ (at-if2 .if2 .left)) (sym (at-tree-ok .tree-ok .ensures) ∙ not-true _ (c .if3 .taken))
 
 returns-4 : tie.Need-returns-4
-returns-4 c = passed _ (sym (c .before .before .before .before .before .counts-ok .ensures) ∙ not-false _ (c .before .before .before .before .if1 .left)) (sym (c .before .before .before .words-ok .ensures) ∙ not-false _ (c .before .before .if2 .left)) (sym (c .before .tree-ok .ensures) ∙ not-false _ (c .if3 .left))
+returns-4 c =
+    let at-tree-ok = c .before in
+    let at-if2 = at-tree-ok .before in
+    let at-words-ok = at-if2 .before in
+    let at-if1 = at-words-ok .before in
+    let at-counts-ok = at-if1 .before in
+    passed _ (sym (at-counts-ok .counts-ok .ensures) ∙ not-false _ (at-if1 .if1 .left))
+    (sym (at-words-ok .words-ok .ensures) ∙ not-false _ (at-if2 .if2 .left)) (sym (at-tree-ok .tree-ok .ensures) ∙ not-false _ (c .if3 .left))
 
 pub verdict-of-spec : {M : Type 1} → statement M
 verdict-of-spec =

@@ -17,7 +17,9 @@ has-column-requires : tie.Need-has-column-requires
 has-column-requires c κs = search needs
 
 returns : tie.Need-returns
-returns c = let e = c .before .before .edge-no .ensures in edge-absent _ _ (column-read _ _ _ _ _ _ (e .child-is) (e .column-is) (c .before .has-column .ensures) ∙ not-true _ (c .if1 .taken))
+returns c =
+    let e = c .before .before .edge-no .ensures in
+    edge-absent _ _ (column-read _ _ _ _ _ _ (e .child-is) (e .column-is) (c .before .has-column .ensures) ∙ not-true _ (c .if1 .taken))
 
 returns-2 : tie.Need-returns-2
 returns-2 c = no _ (λ h. let f = edge-facts _ _ h in omega (arith, c .before .before .before .before .edge-no .ensures .column-is))
@@ -29,17 +31,18 @@ returns-3 : tie.Need-returns-3
 returns-3 c = no _ (λ h. let f = edge-facts _ _ h in omega (arith, c .before .before .before .before .before .before .before .edge-no .ensures .parent-is))
 
 returns-4 : tie.Need-returns-4
-returns-4 c = no _ (λ h. let f = edge-facts _ _ h in omega (arith, c .before .before .before .before .before .before .before .before .before .edge-no .ensures .promise-is))
+returns-4 c =
+    let at-if2 = c .before .before .before .before .before in
+    let at-edge-no = at-if2 .before .before .before .before in
+    no _ (λ h. let f = edge-facts _ _ h in omega (arith, at-edge-no .edge-no .ensures .promise-is))
 
 returns-5 : tie.Need-returns-5
-returns-5 c = let e = c .before .before .before .before .before .before .before .before .before .edge-no .ensures in
-    edge-make _ _
-    (record {
-      there = column-facts _ _ _ (column-read _ _ _ _ _ _ (e .child-is) (e .column-is) (c .before .before .before .before .before .before .before .before .has-column .ensures) ∙ not-false _ (c .before .before .before .before .before .before .before .if1 .left));
-      not-key = omega arith;
-      parent-in = omega arith;
-      promise-small = omega arith;
-    })
+returns-5 c =
+    let at-if1 = c .before .before .before .before .before .before .before in
+    let at-has-column = at-if1 .before in
+    let e = at-has-column .before .edge-no .ensures in
+    let there = column-read _ _ _ _ _ _ (e .child-is) (e .column-is) (at-has-column .has-column .ensures) ∙ not-false _ (at-if1 .if1 .left) in
+    edge-make _ _ (record { there = column-facts _ _ _ there; not-key = omega arith; parent-in = omega arith; promise-small = omega arith })
 
 pub edge-ok-spec : {M : Type 1} → statement M
 edge-ok-spec =

@@ -25,7 +25,11 @@ names-column-requires : tie.Need-names-column-requires Inv-loop μ-loop
 names-column-requires c κs = search needs
 
 returns : tie.Need-returns Inv-loop μ-loop
-returns c = sym (first-at _ _ _ (c .before .before .loop-test .taken) (c .before .before .before .loop .inv .1) (sym (c .before .names-column .ensures) ∙ c .if1 .taken) .1)
+returns c =
+    let at-names-column = c .before in
+    let at-loop-test = at-names-column .before in
+    let at-loop = at-loop-test .before in
+    sym (first-at _ _ _ (at-loop-test .loop-test .taken) (at-loop .loop .inv .1) (sym (at-names-column .names-column .ensures) ∙ c .if1 .taken) .1)
 
 add-k : tie.Need-add-k Inv-loop μ-loop
 add-k c = search needs

@@ -41,7 +41,9 @@ loop-less : tie.Need-loop-less Inv-loop μ-loop
 loop-less c = search needs
 
 loop-again : tie.Need-loop-again Inv-loop μ-loop
-loop-again c = (omega arith, every-more _ _ (c .before .before .before .before .loop .inv .1) (sym (width-make _ _ (record { low = omega arith; high = omega arith }))))
+loop-again c =
+    let at-loop = c .before .before .before .before in
+    (omega arith, every-more _ _ (at-loop .loop .inv .1) (sym (width-make _ _ (record { low = omega arith; high = omega arith }))))
 
 returns-3 : tie.Need-returns-3 Inv-loop μ-loop
 returns-3 c = sym (every-end _ _ _ (omega arith) (omega arith) (c .before .loop .inv .1))

@@ -17,42 +17,77 @@ edges-ok-requires : tie.Need-edges-ok-requires
 edges-ok-requires c κs = search needs
 
 returns-2 : tie.Need-returns-2
-returns-2 c = rw (words-are _ (c .before .before .before .before .before .pre), sym (c .before .before .before .widths-ok .ensures) ∙ not-false _ (c .before .before .if1 .left), sym (c .before .edges-ok .ensures) ∙ not-true _ (c .if2 .taken))
+returns-2 c =
+    let at-edges-ok = c .before in
+    let at-if1 = at-edges-ok .before in
+    let at-widths-ok = at-if1 .before in
+    let at-start = at-widths-ok .before .before in
+    rw (
+      words-are _ (at-start .pre),
+      sym (at-widths-ok .widths-ok .ensures) ∙ not-false _ (at-if1 .if1 .left),
+      sym (at-edges-ok .edges-ok .ensures) ∙ not-true _ (c .if2 .taken),
+    )
 
 conditions-ok-requires : tie.Need-conditions-ok-requires
 conditions-ok-requires c κs = search needs
 
 returns-3 : tie.Need-returns-3
-returns-3 c = rw (
-  words-are _ (c .before .before .before .before .before .before .before .pre),
-  sym (c .before .before .before .before .before .widths-ok .ensures) ∙ not-false _ (c .before .before .before .before .if1 .left),
-  sym (c .before .before .before .edges-ok .ensures) ∙ not-false _ (c .before .before .if2 .left),
-  sym (c .before .conditions-ok .ensures) ∙ not-true _ (c .if3 .taken),
-)
+returns-3 c =
+    let at-conditions-ok = c .before in
+    let at-if2 = at-conditions-ok .before in
+    let at-edges-ok = at-if2 .before in
+    let at-if1 = at-edges-ok .before in
+    let at-widths-ok = at-if1 .before in
+    let at-start = at-widths-ok .before .before in
+    rw (
+      words-are _ (at-start .pre),
+      sym (at-widths-ok .widths-ok .ensures) ∙ not-false _ (at-if1 .if1 .left),
+      sym (at-edges-ok .edges-ok .ensures) ∙ not-false _ (at-if2 .if2 .left),
+      sym (at-conditions-ok .conditions-ok .ensures) ∙ not-true _ (c .if3 .taken),
+    )
 
 listings-ok-requires : tie.Need-listings-ok-requires
 listings-ok-requires c κs = search needs
 
 returns-4 : tie.Need-returns-4
-returns-4 c = rw (
-  words-are _ (c .before .before .before .before .before .before .before .before .before .pre),
-  sym (c .before .before .before .before .before .before .before .widths-ok .ensures) ∙ not-false _ (c .before .before .before .before .before .before .if1 .left),
-  sym (c .before .before .before .before .before .edges-ok .ensures) ∙ not-false _ (c .before .before .before .before .if2 .left),
-  sym (c .before .before .before .conditions-ok .ensures) ∙ not-false _ (c .before .before .if3 .left),
-  sym (c .before .listings-ok .ensures) ∙ not-true _ (c .if4 .taken),
-)
+returns-4 c =
+    let at-listings-ok = c .before in
+    let at-if3 = at-listings-ok .before in
+    let at-conditions-ok = at-if3 .before in
+    let at-if2 = at-conditions-ok .before in
+    let at-edges-ok = at-if2 .before in
+    let at-if1 = at-edges-ok .before in
+    let at-widths-ok = at-if1 .before in
+    let at-start = at-widths-ok .before .before in
+    rw (
+      words-are _ (at-start .pre),
+      sym (at-widths-ok .widths-ok .ensures) ∙ not-false _ (at-if1 .if1 .left),
+      sym (at-edges-ok .edges-ok .ensures) ∙ not-false _ (at-if2 .if2 .left),
+      sym (at-conditions-ok .conditions-ok .ensures) ∙ not-false _ (at-if3 .if3 .left),
+      sym (at-listings-ok .listings-ok .ensures) ∙ not-true _ (c .if4 .taken),
+    )
 
 rooms-ok-requires : tie.Need-rooms-ok-requires
 rooms-ok-requires c κs = search needs
 
 returns-5 : tie.Need-returns-5
-returns-5 c = rw (
-  words-are _ (c .before .before .before .before .before .before .before .before .before .before .pre),
-  sym (c .before .before .before .before .before .before .before .before .widths-ok .ensures) ∙ not-false _ (c .before .before .before .before .before .before .before .if1 .left),
-  sym (c .before .before .before .before .before .before .edges-ok .ensures) ∙ not-false _ (c .before .before .before .before .before .if2 .left),
-  sym (c .before .before .before .before .conditions-ok .ensures) ∙ not-false _ (c .before .before .before .if3 .left),
-  sym (c .before .before .listings-ok .ensures) ∙ not-false _ (c .before .if4 .left),
-) (c .rooms-ok .ensures)
+returns-5 c =
+    let at-if4 = c .before in
+    let at-listings-ok = at-if4 .before in
+    let at-if3 = at-listings-ok .before in
+    let at-conditions-ok = at-if3 .before in
+    let at-if2 = at-conditions-ok .before in
+    let at-edges-ok = at-if2 .before in
+    let at-if1 = at-edges-ok .before in
+    let at-widths-ok = at-if1 .before in
+    let at-start = at-widths-ok .before .before in
+    rw (
+      words-are _ (at-start .pre),
+      sym (at-widths-ok .widths-ok .ensures) ∙ not-false _ (at-if1 .if1 .left),
+      sym (at-edges-ok .edges-ok .ensures) ∙ not-false _ (at-if2 .if2 .left),
+      sym (at-conditions-ok .conditions-ok .ensures) ∙ not-false _ (at-if3 .if3 .left),
+      sym (at-listings-ok .listings-ok .ensures) ∙ not-false _ (at-if4 .if4 .left),
+    ) (c .rooms-ok .ensures)
 
 pub words-ok-spec : {M : Type 1} → statement M
 words-ok-spec =

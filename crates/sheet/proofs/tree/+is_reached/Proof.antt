@@ -29,7 +29,16 @@ is-reached-below t =
     and 1 is-reached-kinds.ps (falls 1 is-reached-kinds.ps _<_ μ-is-reached t) is-reached.Pre
 
 abbrev calls : ℕ → is-reached-lts.Claims
-calls t = (edge-into-reads.Asked, edge-into-reads.Learnt, edges-reads.Asked, edges-reads.Learnt, edge-no-reads.Asked, edge-no-reads.Learnt, is-reached-below t, is-reached.Post)
+calls t = (
+  edge-into-reads.Asked,
+  edge-into-reads.Learnt,
+  edges-reads.Asked,
+  edges-reads.Learnt,
+  edge-no-reads.Asked,
+  edge-no-reads.Learnt,
+  is-reached-below t,
+  is-reached.Post,
+)
 
 is-reached-edge-into-requires : (t : ℕ) → is-reached-lts.Need-edge-into-requires (calls t) (is-reached-at t) is-reached.Post
 is-reached-edge-into-requires t c κs = search needs
@@ -57,7 +66,10 @@ is-reached-is-reached-requires t c κs = let at-start = c .before .before .befor
 
 is-reached-returns-3 : (t : ℕ) → is-reached-lts.Need-returns-3 (calls t) (is-reached-at t) is-reached.Post
 is-reached-returns-3 t c = let at-start = c .before .before .before .before .before .before .before in
-    reached-on _ _ _ (c .before .before .before .before .before .edge-into .ensures) _ _ (c .before .before .if2 .left) (at-start .pre .1 .0 .one-into _ (at-start .pre .1 .1)) (omega arith)
+    let joined = at-start .pre .1 .0 in
+    let at-if2 = c .before .before in
+    let at-edge-into = at-if2 .before .before .before in
+    reached-on _ _ _ (at-edge-into .edge-into .ensures) _ _ (at-if2 .if2 .left) (joined .one-into _ (at-start .pre .1 .1)) (omega arith)
     (c .is-reached .ensures ∙ ap (reachedNo _ _) (c .before .edge-no .ensures .child-is))
 
 pub +is-reached-spec : {M : Type 1} → statement M

@@ -40,7 +40,8 @@ loop-again : tie.Need-loop-again Inv-loop μ-loop
 loop-again c = (omega arith, every-more _ _ (c .before .before .before .loop .inv .1) (sym (c .before .is-reached .ensures) ∙ c .if1 .taken))
 
 returns : tie.Need-returns Inv-loop μ-loop
-returns c = rw (← c .before .before .before .before .edges .ensures) (sym (every-fails _ _ _ (omega arith) (sym (c .before .is-reached .ensures) ∙ c .if1 .left)))
+returns c =
+    rw (← c .before .before .before .before .edges .ensures) (sym (every-fails _ _ _ (omega arith) (sym (c .before .is-reached .ensures) ∙ c .if1 .left)))
 
 returns-2 : tie.Need-returns-2 Inv-loop μ-loop
 returns-2 c = rw (← c .before .before .edges .ensures) (sym (every-end _ _ _ (omega arith) (omega arith) (c .before .loop .inv .1)))

@@ -30,7 +30,10 @@ edge-no-requires c κs = search needs
 
 returns : tie.Need-returns Inv-loop μ-loop
 unfolding goesNo
-returns c = sym (first-at _ _ _ (omega arith) (c .before .before .before .before .loop .inv .1) (eq-eqb _ _ (sym (c .before .before .edge-no .ensures .parent-is) ∙ c .if1 .taken)) .1)
+returns c =
+    sym
+    (first-at _ _ _ (omega arith) (c .before .before .before .before .loop .inv .1)
+    (eq-eqb _ _ (sym (c .before .before .edge-no .ensures .parent-is) ∙ c .if1 .taken)) .1)
 
 add-k : tie.Need-add-k Inv-loop μ-loop
 add-k c = search needs
@@ -40,7 +43,10 @@ loop-less c = search needs
 
 loop-again : tie.Need-loop-again Inv-loop μ-loop
 unfolding goesNo
-loop-again c = (omega arith, some-more _ _ (c .before .before .before .before .loop .inv .1) (ne-eqb _ _ (λ q. c .if1 .left (c .before .before .edge-no .ensures .parent-is ∙ q))))
+loop-again c = (
+  omega arith,
+  some-more _ _ (c .before .before .before .before .loop .inv .1) (ne-eqb _ _ (λ q. c .if1 .left (c .before .before .edge-no .ensures .parent-is ∙ q))),
+)
 
 returns-2 : tie.Need-returns-2 Inv-loop μ-loop
 returns-2 c = sym (first-end _ _ _ (omega arith) (omega arith) (c .before .loop .inv .1) ∙ sym (c .before .before .edges .ensures))

@@ -38,14 +38,28 @@ loop-less c = search needs
 
 loop-again : tie.Need-loop-again Inv-loop μ-loop
 unfolding goesNo
-loop-again c = (omega arith, (omega arith, counted-hit _ _ _ (c .before .before .before .before .loop .inv .1 .1) (eq-eqb _ _ (sym (c .before .before .edge-no .ensures .parent-is) ∙ c .if1 .taken))))
+loop-again c = (
+  omega arith,
+  (
+    omega arith,
+    counted-hit _ _ _ (c .before .before .before .before .loop .inv .1 .1)
+        (eq-eqb _ _ (sym (c .before .before .edge-no .ensures .parent-is) ∙ c .if1 .taken)),
+  ),
+)
 
 loop-less-2 : tie.Need-loop-less-2 Inv-loop μ-loop
 loop-less-2 c = search needs
 
 loop-again-2 : tie.Need-loop-again-2 Inv-loop μ-loop
 unfolding goesNo
-loop-again-2 c = (omega arith, (omega arith, counted-miss _ _ _ (c .before .before .before .before .loop .inv .1 .1) (ne-eqb _ _ (λ q. c .if1 .left (c .before .before .edge-no .ensures .parent-is ∙ q)))))
+loop-again-2 c = (
+  omega arith,
+  (
+    omega arith,
+    counted-miss _ _ _ (c .before .before .before .before .loop .inv .1 .1)
+        (ne-eqb _ _ (λ q. c .if1 .left (c .before .before .edge-no .ensures .parent-is ∙ q))),
+  ),
+)
 
 returns : tie.Need-returns Inv-loop μ-loop
 returns c = counted-end _ _ _ _ (omega arith) (omega arith) (c .before .loop .inv .1 .1)

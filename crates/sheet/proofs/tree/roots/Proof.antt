@@ -37,13 +37,19 @@ loop-less : tie.Need-loop-less Inv-loop μ-loop
 loop-less c = search needs
 
 loop-again : tie.Need-loop-again Inv-loop μ-loop
-loop-again c = (omega arith, (omega arith, counted-hit _ _ _ (c .before .before .before .loop .inv .1 .1) (root-hit _ _ _ (c .before .edges-into .ensures) (c .if1 .taken))))
+loop-again c = (
+  omega arith,
+  (omega arith, counted-hit _ _ _ (c .before .before .before .loop .inv .1 .1) (root-hit _ _ _ (c .before .edges-into .ensures) (c .if1 .taken))),
+)
 
 loop-less-2 : tie.Need-loop-less-2 Inv-loop μ-loop
 loop-less-2 c = search needs
 
 loop-again-2 : tie.Need-loop-again-2 Inv-loop μ-loop
-loop-again-2 c = (omega arith, (omega arith, counted-miss _ _ _ (c .before .before .before .loop .inv .1 .1) (root-miss _ _ _ (c .before .edges-into .ensures) (c .if1 .left))))
+loop-again-2 c = (
+  omega arith,
+  (omega arith, counted-miss _ _ _ (c .before .before .before .loop .inv .1 .1) (root-miss _ _ _ (c .before .edges-into .ensures) (c .if1 .left))),
+)
 
 returns : tie.Need-returns Inv-loop μ-loop
 returns c = counted-end _ _ _ _ (omega arith) (omega arith) (c .before .loop .inv .1 .1)

@@ -18,13 +18,37 @@ one-into-each-requires : tie.Need-one-into-each-requires
 one-into-each-requires c κs = search needs
 
 returns-2 : tie.Need-returns-2
-returns-2 c = rw (tree-are _ (c .before .before .before .before .before .pre), ← c .before .before .before .roots .ensures, eq-eqb _ _ (c .before .before .if1 .left), sym (c .before .one-into-each .ensures) ∙ not-true _ (c .if2 .taken))
+returns-2 c =
+    let at-one-into-each = c .before in
+    let at-if1 = at-one-into-each .before in
+    let at-roots = at-if1 .before in
+    let at-start = at-roots .before .before in
+    rw (
+      tree-are _ (at-start .pre),
+      ← at-roots .roots .ensures,
+      eq-eqb _ _ (at-if1 .if1 .left),
+      sym (at-one-into-each .one-into-each .ensures) ∙ not-true _ (c .if2 .taken),
+    )
 
 all-reached-requires : tie.Need-all-reached-requires
-all-reached-requires c κs = joined _ (c .before .before .before .before .before .pre) (sym (c .before .one-into-each .ensures) ∙ not-false _ (c .if2 .left))
+all-reached-requires c κs =
+    let at-one-into-each = c .before in
+    let at-start = at-one-into-each .before .before .before .before in
+    joined _ (at-start .pre) (sym (at-one-into-each .one-into-each .ensures) ∙ not-false _ (c .if2 .left))
 
 returns-3 : tie.Need-returns-3
-returns-3 c = rw (tree-are _ (c .before .before .before .before .before .before .pre), ← c .before .before .before .before .roots .ensures, eq-eqb _ _ (c .before .before .before .if1 .left), sym (c .before .before .one-into-each .ensures) ∙ not-false _ (c .before .if2 .left)) (c .all-reached .ensures)
+returns-3 c =
+    let at-if2 = c .before in
+    let at-one-into-each = at-if2 .before in
+    let at-if1 = at-one-into-each .before in
+    let at-roots = at-if1 .before in
+    let at-start = at-roots .before .before in
+    rw (
+      tree-are _ (at-start .pre),
+      ← at-roots .roots .ensures,
+      eq-eqb _ _ (at-if1 .if1 .left),
+      sym (at-one-into-each .one-into-each .ensures) ∙ not-false _ (at-if2 .if2 .left),
+    ) (c .all-reached .ensures)
 
 pub tree-ok-spec : {M : Type 1} → statement M
 tree-ok-spec =
