@@ -4,6 +4,40 @@ use Prim.Native.Nat.{ℕ, zero, suc}
 use mathlib.Core.Bool.{Bool, true, false}
 use Rattle.lists.specs.Lists.{Words}
 
+-- The numbers of the table: "Given exactly when"
+abbrev pub badCounts : ℕ
+badCounts = 1
+
+abbrev pub badWords : ℕ
+badWords = 2
+
+abbrev pub noTree : ℕ
+noTree = 3
+
+abbrev pub wrongLength : ℕ
+wrongLength = 4
+
+abbrev pub badChange : ℕ
+badChange = 5
+
+abbrev pub noSuchPart : ℕ
+noSuchPart = 5
+
+abbrev pub altersTied : ℕ
+altersTied = 6
+
+abbrev pub notSound : ℕ
+notSound = 7
+
+abbrev pub contradiction : ℕ
+contradiction = 8
+
+abbrev pub noRoom : ℕ
+noRoom = 9
+
+abbrev pub badBase : ℕ
+badBase = 10
+
 -- "Order: by number": go on to the rest only if the test is passed
 abbrev pub unless : Bool → ℕ → ℕ → ℕ
 unless true number rest = rest

@@ -7,6 +7,7 @@ use lib.Dec.{ltb, leb, eqb}
 use lib.ListN.{length, getD, drop, set}
 use Rattle.lists.specs.Lists.{Words, at, all, any, upTo, sum}
 use Rattle.rows.specs.Rows.{Row, Rows, key, cut, hasRow, takeRow, hasKey, noKeyTwice}
+use Rattle.meaning.specs.Limits.{mostRows}
 use Rattle.meaning.specs.Sheet.{Edge, Sheet, tables, width, edgesInto}
 use Rattle.meaning.specs.Plan.{isPromised, promised, isChildColumn, inCondition}
 
@@ -50,7 +51,7 @@ lawful s base = all (lawfulTable s base) (tables s)
 -- Refusal 10: the run's length, its counts, and lawful base tables
 unfoldable pub goodBase : Sheet → Words → Bool
 goodBase s run =
-    eqb (length run) (baseStart s run (s .n)) && all (λ t. leb (at run t) 65535) (tables s) && lawful s (baseOf s run)
+    eqb (length run) (baseStart s run (s .n)) && all (λ t. leb (at run t) mostRows) (tables s) && lawful s (baseOf s run)
 
 -- a change call's words: kind 1 inserts new, 2 deletes old, 3 updates old to new
 pub record Change : Type 0 where

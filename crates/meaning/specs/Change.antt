@@ -7,7 +7,7 @@ use lib.Dec.{eqb}
 use lib.ListN.{length, set}
 use Rattle.lists.specs.Lists.{Words, at, all, select, member, upTo, placeOf, choices}
 use Rattle.rows.specs.Rows.{Row, Rows, key, pick, sameRow, putRows, takeRows, hasRow, hasRows, hasKey}
-use Rattle.meaning.specs.Answers.{unless, _orElse_, Outcome, refused}
+use Rattle.meaning.specs.Answers.{wrongLength, badChange, altersTied, notSound, contradiction, noRoom, unless, _orElse_, Outcome, refused}
 use Rattle.meaning.specs.Sheet.{Edge, Listed, Sheet, tables, width, sheetOf, sheetRefusal}
 use Rattle.meaning.specs.Plan.{root, edgeInto, names, keyListed, kept, shown, storeLength}
 use Rattle.meaning.specs.Base.{Tables, rowsOf, Change, byKind, goodChange, tiedStay}
@@ -153,12 +153,12 @@ unfoldable pub changeRefusal : Words → Words → Change → ℕ
 changeRefusal sheet store c =
     let s = sheetOf sheet in
     sheetRefusal sheet orElse
-    (unless (eqb (length store) (storeLength s)) 4
-    (unless (goodChange s c) 5
-    (unless (tiedStay s c) 6
-    (unless (sound s store) 7
-    (unless (agrees s (modelOf s store) c) 8
-    (unless (fits s (modelAfter s store c)) 9
+    (unless (eqb (length store) (storeLength s)) wrongLength
+    (unless (goodChange s c) badChange
+    (unless (tiedStay s c) altersTied
+    (unless (sound s store) notSound
+    (unless (agrees s (modelOf s store) c) contradiction
+    (unless (fits s (modelAfter s store c)) noRoom
     0))))))
 
 -- "The answer carries rows taken from the list and rows added"

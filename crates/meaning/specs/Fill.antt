@@ -5,7 +5,7 @@ use mathlib.Core.Bool.{Bool, true, false, cond}
 use lib.Dec.{eqb}
 use lib.ListN.{length}
 use Rattle.lists.specs.Lists.{Words}
-use Rattle.meaning.specs.Answers.{unless, _orElse_, Outcome, refused}
+use Rattle.meaning.specs.Answers.{wrongLength, noRoom, badBase, unless, _orElse_, Outcome, refused}
 use Rattle.meaning.specs.Sheet.{Sheet, sheetOf, sheetRefusal}
 use Rattle.meaning.specs.Plan.{storeLength}
 use Rattle.meaning.specs.Base.{baseOf, goodBase}
@@ -16,9 +16,9 @@ unfoldable pub fillRefusal : Words → Words → Words → ℕ
 fillRefusal sheet store run =
     let s = sheetOf sheet in
     sheetRefusal sheet orElse
-    (unless (eqb (length store) (storeLength s)) 4
-    (unless (goodBase s run) 10
-    (unless (fits s (meaning s (baseOf s run))) 9
+    (unless (eqb (length store) (storeLength s)) wrongLength
+    (unless (goodBase s run) badBase
+    (unless (fits s (meaning s (baseOf s run))) noRoom
     0)))
 
 -- "Fill answers taken 0 and added = rows on the list"

@@ -1,3 +1,4 @@
+pub mod Limits
 pub mod Answers
 pub mod Sheet
 pub mod Plan

@@ -7,6 +7,7 @@ use mathlib.Core.List.{List, [], _∷_, map}
 use lib.Dec.{ltb, eqb}
 use lib.ListN.{length, getD}
 use Rattle.lists.specs.Lists.{Words, at, all, any, select, flat, member, upTo, sum}
+use Rattle.meaning.specs.Limits.{countWords}
 use Rattle.meaning.specs.Sheet.{Edge, Condition, Listed, Sheet, tables, width, room, edgesInto, edgesFrom, isRoot, sheetOf, sheetRefusal}
 
 -- the table with no edge into it
@@ -94,7 +95,7 @@ size s part = room s part * columns s part
 
 -- the place of a part's first word: nine counts, and the parts before
 unfoldable pub start : Sheet → ℕ → ℕ
-start s part = 9 + sum (map (size s) (upTo part))
+start s part = countWords + sum (map (size s) (upTo part))
 
 -- "Its length is 9 + the sum of room × shown columns over these"
 unfoldable pub storeLength : Sheet → ℕ

@@ -7,7 +7,8 @@ use lib.Dec.{ltb, leb, eqb}
 use lib.ListN.{length, getD, take, drop}
 use Rattle.lists.specs.Lists.{Words, at, between, all, any, select, noneTwice, upTo}
 use Rattle.rows.specs.Rows.{Row, cut}
-use Rattle.meaning.specs.Answers.{unless}
+use Rattle.meaning.specs.Limits.{mostTables, mostColumns, mostConditions, mostListed, mostRoom}
+use Rattle.meaning.specs.Answers.{badCounts, badWords, noTree, unless}
 
 -- "The edge joins the child's column to the parent's key. Promise 1 says that every child row has its parent"
 pub record Edge : Type 0 where
@@ -103,7 +104,7 @@ goodCounts ws =
     let e = edgeCount ws in
     let c = conditionCount ws in
     let p = listedCount ws in
-    between 1 8 n && eqb (e + 1) n && between 0 16 c && between 1 16 p && eqb (length ws) (4 + 2 * n + 1 + 4 * e + 4 * c + 2 * p)
+    between 1 mostTables n && eqb (e + 1) n && between 0 mostConditions c && between 1 mostListed p && eqb (length ws) (4 + 2 * n + 1 + 4 * e + 4 * c + 2 * p)
 
 -- Refusal 2: each word is within the sheet's rules. An edge's child column is 1 to width - 1, its promise 0 or 1
 unfoldable pub goodEdge : Sheet → Edge → Bool
@@ -120,12 +121,12 @@ sameListed l m = eqb (l .table) (m .table) && eqb (l .column) (m .column)
 
 unfoldable pub goodWords : Sheet → Bool
 goodWords s =
-    all (between 1 8) (s .widths)
+    all (between 1 mostColumns) (s .widths)
     && all (goodEdge s) (s .edges)
     && all (goodCondition s) (s .conditions)
     && all (goodListed s) (s .listed)
     && noneTwice sameListed (s .listed)
-    && all (between 0 4096) (s .rooms)
+    && all (between 0 mostRoom) (s .rooms)
 
 -- Refusal 3: "Each table but one has exactly one edge into it, that one (the root) has none, and every table is reached from the root"
 abbrev pub goesInto : ℕ → Edge → Bool
@@ -157,4 +158,4 @@ goodTree s =
 
 -- 0, or the refusal of these words as a sheet
 unfoldable pub sheetRefusal : Words → ℕ
-sheetRefusal ws = unless (goodCounts ws) 1 (unless (goodWords (sheetOf ws)) 2 (unless (goodTree (sheetOf ws)) 3 0))
+sheetRefusal ws = unless (goodCounts ws) badCounts (unless (goodWords (sheetOf ws)) badWords (unless (goodTree (sheetOf ws)) noTree 0))

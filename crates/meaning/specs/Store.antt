@@ -7,7 +7,8 @@ use lib.Dec.{ltb, leb, eqb}
 use lib.ListN.{length, getD, take, drop, replicate}
 use Rattle.lists.specs.Lists.{Words, at, all, flat, from, upTo}
 use Rattle.rows.specs.Rows.{Rows, cut, rising, noKeyTwice}
-use Rattle.meaning.specs.Answers.{unless, _orElse_}
+use Rattle.meaning.specs.Limits.{mostTables, listCount}
+use Rattle.meaning.specs.Answers.{wrongLength, noSuchPart, notSound, unless, _orElse_}
 use Rattle.meaning.specs.Sheet.{Sheet, tables, room, sheetOf, sheetRefusal}
 use Rattle.meaning.specs.Plan.{kept, columns, size, start, storeLength}
 use Rattle.meaning.specs.Base.{rowsOf}
@@ -23,7 +24,7 @@ partRows m part = getD (m .sides ++ (m .list ∷ [])) part []
 -- From a model to words: "nine counts (tables 0 to 7, then the list; 0 for an absent or unkept table), then the room of each kept side
 -- table in table order, then the list's room"; "Unused room is zero"
 unfoldable pub counts : Model → Words
-counts m = map (λ t. length (rowsOf (m .sides) t)) (upTo 8) ++ (length (m .list) ∷ [])
+counts m = map (λ t. length (rowsOf (m .sides) t)) (upTo mostTables) ++ (length (m .list) ∷ [])
 
 abbrev pub padded : ℕ → Words → Words
 padded k ws = ws ++ replicate (k - length ws) 0
@@ -33,7 +34,7 @@ storeOf s m = counts m ++ flat (map (λ part. padded (size s part) (flat (partRo
 
 -- From words to a model
 abbrev pub count : Sheet → Words → ℕ → ℕ
-count s store part = at store (cond (ltb part (s .n)) part 8)
+count s store part = at store (cond (ltb part (s .n)) part listCount)
 
 unfoldable pub partWords : Sheet → Words → ℕ → Words
 partWords s store part = take (size s part) (drop (start s part) store)
@@ -59,7 +60,7 @@ soundTable s store t = (kept s t || eqb (count s store t) 0) && noKeyTwice (rows
 unfoldable pub sound : Sheet → Words → Bool
 sound s store =
     eqb (length store) (storeLength s)
-    && all (λ t. eqb (at store t) 0) (from (s .n) (8 - s .n))
+    && all (λ t. eqb (at store t) 0) (from (s .n) (mostTables - s .n))
     && all (soundPart s store) (partsOf s)
     && all (soundTable s store) (tables s)
 
@@ -76,9 +77,9 @@ unfoldable pub showRefusal : Words → Words → ℕ → ℕ
 showRefusal sheet store part =
     let s = sheetOf sheet in
     sheetRefusal sheet orElse
-    (unless (eqb (length store) (storeLength s)) 4
-    (unless (leb part (s .n)) 5
-    (unless (sound s store) 7
+    (unless (eqb (length store) (storeLength s)) wrongLength
+    (unless (leb part (s .n)) noSuchPart
+    (unless (sound s store) notSound
     0)))
 
 unfoldable pub stretchOf : Sheet → Words → ℕ → Words
