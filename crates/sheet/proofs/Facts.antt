@@ -8,6 +8,7 @@ use borrow.Author.Tests.{leb-true, ltb-true, eqb-true, le-leb, lt-ltb, eq-eqb}
 use Rattle.lists.specs.Lists.{Words, at, between, all, noneTwice}
 use Rattle.lists.specs.Loops.{every, some}
 use Rattle.lists.proofs.Loops.{and-true, every-at}
+use Rattle.meaning.specs.Limits.{mostColumns, mostRoom}
 use Rattle.meaning.specs.Sheet.{tableCount, edgeCount, conditionCount, listedCount, sheetOf, hasColumn, width}
 use Rattle.meaning.specs.Sheet.{goodCounts, goodEdge, goodCondition, goodListed, goodWords, sameListed}
 use Rattle.sheet.specs.Numbered.{edgeNo, conditionNo, listingNo, widthNo, roomNo}
@@ -99,19 +100,19 @@ within-facts lowest highest x h = let a = and-true _ _ h in record { low = leb-t
 within-make : (lowest highest x : ℕ) → Within lowest highest x → true ≡ between lowest highest x
 within-make lowest highest x h = rw (le-leb _ _ (h .low), le-leb _ _ (h .high))
 
-pub width-facts : (ws : Words) (t : ℕ) → widthPasses ws t ≡ true → Within 1 8 (widthNo ws t)
+pub width-facts : (ws : Words) (t : ℕ) → widthPasses ws t ≡ true → Within 1 mostColumns (widthNo ws t)
 unfolding widthPasses
 width-facts ws t h = within-facts _ _ _ h
 
-pub width-make : (ws : Words) (t : ℕ) → Within 1 8 (widthNo ws t) → true ≡ widthPasses ws t
+pub width-make : (ws : Words) (t : ℕ) → Within 1 mostColumns (widthNo ws t) → true ≡ widthPasses ws t
 unfolding widthPasses
 width-make ws t h = within-make _ _ _ h
 
-pub room-facts : (ws : Words) (part : ℕ) → roomPasses ws part ≡ true → Within 0 4096 (roomNo ws part)
+pub room-facts : (ws : Words) (part : ℕ) → roomPasses ws part ≡ true → Within 0 mostRoom (roomNo ws part)
 unfolding roomPasses
 room-facts ws part h = within-facts _ _ _ h
 
-pub room-make : (ws : Words) (part : ℕ) → Within 0 4096 (roomNo ws part) → true ≡ roomPasses ws part
+pub room-make : (ws : Words) (part : ℕ) → Within 0 mostRoom (roomNo ws part) → true ≡ roomPasses ws part
 unfolding roomPasses
 room-make ws part h = within-make _ _ _ h
 
@@ -133,17 +134,17 @@ words-are ws c =
     ap₂ _&&_
     (ap₂ _&&_
     (ap₂ _&&_
-    (ap₂ _&&_ (ap₂ _&&_ (ap (all (between 1 8)) (widths-are ws c) ∙ all-up (between 1 8) (widthNo ws) (tableCount ws))
+    (ap₂ _&&_ (ap₂ _&&_ (ap (all (between 1 mostColumns)) (widths-are ws c) ∙ all-up (between 1 mostColumns) (widthNo ws) (tableCount ws))
     (ap (all (goodEdge (sheetOf ws))) (edges-are ws) ∙ all-up (goodEdge (sheetOf ws)) (edgeNo ws) (edgeCount ws)))
     (ap (all (goodCondition (sheetOf ws))) (conditions-are ws) ∙ all-up (goodCondition (sheetOf ws)) (conditionNo ws) (conditionCount ws)))
     (ap (all (goodListed (sheetOf ws))) (listed-are ws) ∙ all-up (goodListed (sheetOf ws)) (listingNo ws) (listedCount ws)))
     (ap (noneTwice sameListed) (listed-are ws) ∙ none-twice-up sameListed (listingNo ws) (listedCount ws)))
-    (ap (all (between 0 4096)) (rooms-are ws c) ∙ all-up (between 0 4096) (roomNo ws) (tableCount ws + 1))
+    (ap (all (between 0 mostRoom)) (rooms-are ws c) ∙ all-up (between 0 mostRoom) (roomNo ws) (tableCount ws + 1))
     ∙ both-listed
   where
     w : Bool
     w =
-        every (λ i. between 1 8 (widthNo ws i)) (tableCount ws)
+        every (λ i. between 1 mostColumns (widthNo ws i)) (tableCount ws)
         && every (λ i. goodEdge (sheetOf ws) (edgeNo ws i)) (edgeCount ws)
         && every (λ i. goodCondition (sheetOf ws) (conditionNo ws i)) (conditionCount ws)
 
@@ -154,7 +155,7 @@ words-are ws c =
     f i = not (some (λ j. sameListed (listingNo ws j) (listingNo ws i)) i)
 
     r : Bool
-    r = every (λ i. between 0 4096 (roomNo ws i)) (tableCount ws + 1)
+    r = every (λ i. between 0 mostRoom (roomNo ws i)) (tableCount ws + 1)
 
     both-listed : (w && every l (listedCount ws) && every f (listedCount ws) && r) ≡ (w && every (listingPasses ws) (listedCount ws) && r)
     both-listed = ap (λ b. b && r) (and-assoc w (every l (listedCount ws)) (every f (listedCount ws)) ∙ ap (λ b. w && b) (sym (every-and l f (listedCount ws))))

@@ -6,6 +6,7 @@ use mathlib.Core.Bool.{false}
 use lib.ListN.{length}
 use Rattle.lists.specs.Lists.{Words}
 use Rattle.lists.specs.Loops.{some}
+use Rattle.meaning.specs.Limits.{mostTables, mostColumns, mostConditions, mostListed, mostRoom}
 use Rattle.meaning.specs.Sheet.{tableCount, edgeCount, conditionCount, listedCount}
 use Rattle.sheet.specs.Numbered.{widthNo, edgeNo, conditionNo, listingNo, roomNo}
 use Rattle.sheet.specs.Tests.{listingNames}
@@ -13,11 +14,11 @@ use Rattle.sheet.specs.Tests.{listingNames}
 -- the counts are in range, e is n - 1, and the length is right
 pub record Counts (ws : Words) : Type 0 where
   pub tables-some : 1 ≤ tableCount ws
-  pub tables-few : tableCount ws ≤ 8
+  pub tables-few : tableCount ws ≤ mostTables
   pub edges-right : edgeCount ws + 1 ≡ tableCount ws
-  pub conditions-few : conditionCount ws ≤ 16
+  pub conditions-few : conditionCount ws ≤ mostConditions
   pub listed-some : 1 ≤ listedCount ws
-  pub listed-few : listedCount ws ≤ 16
+  pub listed-few : listedCount ws ≤ mostListed
   pub length-right : length ws ≡ 4 + 2 * tableCount ws + 1 + 4 * edgeCount ws + 4 * conditionCount ws + 2 * listedCount ws
 
 -- both ends included
@@ -53,8 +54,8 @@ pub record Named (ws : Words) (t c i : ℕ) : Type 0 where
 -- all of refusals 1 and 2
 pub record Rules (ws : Words) : Type 0 where
   pub counts : Counts ws
-  pub widths : (t : ℕ) → t < tableCount ws → Within 1 8 (widthNo ws t)
+  pub widths : (t : ℕ) → t < tableCount ws → Within 1 mostColumns (widthNo ws t)
   pub edges : (i : ℕ) → i < edgeCount ws → EdgeRules ws i
   pub conditions : (i : ℕ) → i < conditionCount ws → ConditionRules ws i
   pub listings : (i : ℕ) → i < listedCount ws → ListingRules ws i
-  pub rooms : (t : ℕ) → t < tableCount ws + 1 → Within 0 4096 (roomNo ws t)
+  pub rooms : (t : ℕ) → t < tableCount ws + 1 → Within 0 mostRoom (roomNo ws t)

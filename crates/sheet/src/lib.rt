@@ -1,8 +1,28 @@
 // A sheet: its words read by number, and its check. Any run of words is good, or refused by number.
+mod limits;
 mod reading;
 mod rules;
 mod tree;
 
+pub use limits::ALTERS_TIED;
+pub use limits::BAD_BASE;
+pub use limits::BAD_CHANGE;
+pub use limits::BAD_COUNTS;
+pub use limits::BAD_WORDS;
+pub use limits::COLUMNS;
+pub use limits::CONDITIONS;
+pub use limits::CONTRADICTION;
+pub use limits::LISTED;
+pub use limits::NO_ROOM;
+pub use limits::NO_SUCH_PART;
+pub use limits::NO_TREE;
+pub use limits::NOT_SOUND;
+pub use limits::PARTS;
+pub use limits::PLACES;
+pub use limits::ROOM;
+pub use limits::ROWS;
+pub use limits::TABLES;
+pub use limits::WRONG_LENGTH;
 pub use reading::Condition;
 pub use reading::Edge;
 pub use reading::Listing;
@@ -34,13 +54,13 @@ pub fn verdict_of(sheet: &[u64]) -> Verdict
     ensures { λ v. ⌜ v ≡ verdictOf (now (sheet .entry)) ⌝ }
 {
     if !counts_ok(sheet) {
-        return Verdict::Refused(1);
+        return Verdict::Refused(BAD_COUNTS);
     }
     if !words_ok(sheet) {
-        return Verdict::Refused(2);
+        return Verdict::Refused(BAD_WORDS);
     }
     if !tree_ok(sheet) {
-        return Verdict::Refused(3);
+        return Verdict::Refused(NO_TREE);
     }
     Verdict::Good
 }

@@ -1,4 +1,9 @@
 // Refusals 1 and 2, for any run of words: the counts of a sheet, and each of its words against its rule.
+use crate::limits::COLUMNS;
+use crate::limits::CONDITIONS;
+use crate::limits::LISTED;
+use crate::limits::ROOM;
+use crate::limits::TABLES;
 use crate::reading::condition_no;
 use crate::reading::conditions;
 use crate::reading::edge_no;
@@ -22,35 +27,35 @@ pub fn counts_ok(sheet: &[u64]) -> bool
     if sheet.len() < 4 {
         return false;
     }
-    let n = sheet[0];
-    let e = sheet[1];
-    let c = sheet[2];
-    let p = sheet[3];
+    let n = sheet[0] as usize;
+    let e = sheet[1] as usize;
+    let c = sheet[2] as usize;
+    let p = sheet[3] as usize;
     if n < 1 {
         return false;
     }
-    if 8 < n {
+    if TABLES < n {
         return false;
     }
     if e != n - 1 {
         return false;
     }
-    if 16 < c {
+    if CONDITIONS < c {
         return false;
     }
     if p < 1 {
         return false;
     }
-    if 16 < p {
+    if LISTED < p {
         return false;
     }
-    if sheet.len() as u64 != 4 + 2 * n + 1 + 4 * e + 4 * c + 2 * p {
+    if sheet.len() != 4 + 2 * n + 1 + 4 * e + 4 * c + 2 * p {
         return false;
     }
     true
 }
 
-// Whether every table has 1 to 8 columns.
+// Whether every table has a column, and not too many.
 fn widths_ok(sheet: &[u64]) -> bool
     requires { ⌜ Counts (now sheet) ⌝ }
     ensures { λ b. ⌜ b ≡ every (widthPasses (now (sheet .entry))) (tableCount (now (sheet .entry))) ⌝ }
@@ -62,7 +67,7 @@ fn widths_ok(sheet: &[u64]) -> bool
         if w < 1 {
             return false;
         }
-        if 8 < w {
+        if COLUMNS < w {
             return false;
         }
         t += 1;
@@ -213,7 +218,7 @@ fn listings_ok(sheet: &[u64]) -> bool
     true
 }
 
-// Whether every part has room for at most 4,096 rows.
+// Whether no part's room is too large.
 fn rooms_ok(sheet: &[u64]) -> bool
     requires { ⌜ Counts (now sheet) ⌝ }
     ensures { λ b. ⌜ b ≡ every (roomPasses (now (sheet .entry))) (tableCount (now (sheet .entry)) + 1) ⌝ }
@@ -221,7 +226,7 @@ fn rooms_ok(sheet: &[u64]) -> bool
     let m = tables(sheet) + 1;
     let mut part = 0;
     while part < m {
-        if 4096 < room_no(sheet, part) {
+        if ROOM < room_no(sheet, part) {
             return false;
         }
         part += 1;
