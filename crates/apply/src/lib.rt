@@ -1,5 +1,6 @@
 // A change below its tests, on a sound store: what it does to it and what it answers. The store is sound again after it.
 use layout::Plan;
+use sheet::BAD_CHANGE;
 use store::Answer;
 use ways::Route;
 ghost use mathlib.Core.Path.{_≡_};
@@ -27,6 +28,6 @@ pub fn apply(
         1 => insert::insert(sheet, plan, route, store, table, new),
         2 => delete::delete(sheet, plan, route, store, table, old),
         3 => update::update(sheet, plan, route, store, table, old, new),
-        0 | 4..=u64::MAX => Answer::Refused(5),
+        0 | 4..=u64::MAX => Answer::Refused(BAD_CHANGE),
     }
 }

@@ -1,5 +1,7 @@
 // The change call: tests 1 to 7 in their order, and then the change itself.
+use sheet::NOT_SOUND;
 use sheet::Verdict;
+use sheet::WRONG_LENGTH;
 use store::Answer;
 ghost use Rattle.meaning.specs.Change as Meant;
 ghost use Rattle.kinds.specs.Asked.{changeOf};
@@ -25,7 +27,7 @@ pub fn change(
         return Answer::Refused(number);
     };
     if store.len() != plan.store {
-        return Answer::Refused(4);
+        return Answer::Refused(WRONG_LENGTH);
     }
     let asked = kinds::asked(sheet, kind, table, old, new);
     let Verdict::Good = asked else {
@@ -33,7 +35,7 @@ pub fn change(
         return Answer::Refused(number);
     };
     if !store::is_sound(plan, store) {
-        return Answer::Refused(7);
+        return Answer::Refused(NOT_SOUND);
     }
     let route = routes::route_of(sheet, plan);
     apply::apply(sheet, plan, route, store, kind, table as usize, old, new)

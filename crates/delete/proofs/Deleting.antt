@@ -14,7 +14,7 @@ use Rattle.meaning.specs.Store.{rowsAt, modelOf}
 use Rattle.meaning.specs.Change.{qualifies, sideRow, oldRow}
 use Rattle.laws.proofs.Changes.{made}
 use Rattle.effects.specs.Applied.{applied, walkRows}
-use Rattle.effects.proofs.Deletes.{delete-8-side, delete-none, delete-8-list, delete-done}
+use Rattle.effects.proofs.Deletes.{delete-contradicts-side, delete-none, delete-contradicts-list, delete-done}
 use Rattle.layout.specs.declared.Plan.{Plan}
 use Rattle.ways.specs.declared.Route.{Route}
 use Rattle.ways.specs.Grounds.{Lent}
@@ -35,11 +35,11 @@ use Rattle.delete.specs.Deletes.{Deletes}
 module _ {ws store : Words} {plan : Plan} {p : Route} (rd : Ready ws store plan p) {t : ℕ} {r : Row} (lent : Lent ws t r)
     (q : Bool) (eq : q ≡ qualifies (sheetOf ws) (modelOf (sheetOf ws) store) t r) (b : Bool) (eb : b ≡ oldRow (sheetOf ws) (modelOf (sheetOf ws) store) t r) where
   -- the side table contradicts it
-  pub deletes-8-side : not b ≡ true → Deletes ws store t r (Refused 8) store
-  deletes-8-side h =
+  pub deletes-contradicts-side : not b ≡ true → Deletes ws store t r (Refused 8) store
+  deletes-contradicts-side h =
       record {
         says = λ o. says-refused (applied (sheetOf ws) store (made 2 t r o)) 8 store (λ z. omega arith)
-            (delete-8-side (sheetOf ws) (ready-good rd) store (rd .sound) t (ready-table rd lent) r o (sym eb ∙ not-true b h));
+            (delete-contradicts-side (sheetOf ws) (ready-good rd) store (rd .sound) t (ready-table rd lent) r o (sym eb ∙ not-true b h));
       }
 
   module _ (h : not b ≡ false) where
@@ -58,11 +58,11 @@ module _ {ws store : Words} {plan : Plan} {p : Route} (rd : Ready ws store plan 
       fine = sym eq ∙ not-false q f
 
       -- the list does
-      pub deletes-8-list : a ≡ Contrary → Deletes ws store t r (Refused 8) store
-      deletes-8-list e =
+      pub deletes-contradicts-list : a ≡ Contrary → Deletes ws store t r (Refused 8) store
+      deletes-contradicts-list e =
           record {
             says = λ o. says-refused (applied (sheetOf ws) store (made 2 t r o)) 8 store (λ z. omega arith)
-                (delete-8-list (sheetOf ws) (ready-good rd) store (rd .sound) t (ready-table rd lent) r o old fine (subst (WaysTaken ws store t r marks) e m));
+                (delete-contradicts-list (sheetOf ws) (ready-good rd) store (rd .sound) t (ready-table rd lent) r o old fine (subst (WaysTaken ws store t r marks) e m));
           }
 
       -- its rows leave the list and then its side table

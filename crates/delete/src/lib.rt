@@ -1,5 +1,6 @@
 // A delete below its tests 1 to 7, on a sound store: contradiction, and then the list's rows and the side row leave.
 use layout::Plan;
+use sheet::CONTRADICTION;
 use store::Answer;
 use taken::Taken;
 use ways::Route;
@@ -22,7 +23,7 @@ pub fn delete(
 {
     let qualified = ways::is_qualified(sheet, route, store, table, row);
     if !sides::old_row(sheet, plan, store, table, row, qualified) {
-        return Answer::Refused(8);
+        return Answer::Refused(CONTRADICTION);
     }
     if !qualified {
         return Answer::Done(0, 0);
@@ -31,7 +32,7 @@ pub fn delete(
     let mut marks = [0u16; 4096];
     let a = taken::mark_ways(sheet, route, store, list, table, row, &mut marks);
     let Taken::All(taken) = a else {
-        return Answer::Refused(8);
+        return Answer::Refused(CONTRADICTION);
     };
     store::take_marked(store, list, &marks);
     sides::take_side(sheet, plan, store, table, row);

@@ -34,24 +34,24 @@ module _ (sheet ws : Words) (c : Change) where
   refuses-sheet d = numbered (sheetRefusal sheet) (first (sheetRefusal sheet) _ d) ∙ rw (ne-eqb (sheetRefusal sheet) 0 d)
 
   module _ (ok : sheetRefusal sheet ≡ 0) where
-    pub refuses-4 : (length ws ≡ storeLength (sheetOf sheet) → ⊥) → change sheet ws c ≡ refused 4 ws
+    pub refuses-length : (length ws ≡ storeLength (sheetOf sheet) → ⊥) → change sheet ws c ≡ refused 4 ws
     unfolding changeRefusal called
-    refuses-4 d = numbered 4 (rw (ok, ne-eqb (length ws) (storeLength (sheetOf sheet)) d))
+    refuses-length d = numbered 4 (rw (ok, ne-eqb (length ws) (storeLength (sheetOf sheet)) d))
 
     module _ (long : length ws ≡ storeLength (sheetOf sheet)) where
-      pub refuses-5 : goodChange (sheetOf sheet) c ≡ false → change sheet ws c ≡ refused 5 ws
+      pub refuses-change : goodChange (sheetOf sheet) c ≡ false → change sheet ws c ≡ refused 5 ws
       unfolding changeRefusal called
-      refuses-5 e = numbered 5 (rw (ok, eq-eqb (length ws) (storeLength (sheetOf sheet)) long, e))
+      refuses-change e = numbered 5 (rw (ok, eq-eqb (length ws) (storeLength (sheetOf sheet)) long, e))
 
       module _ (good : goodChange (sheetOf sheet) c ≡ true) where
-        pub refuses-6 : tiedStay (sheetOf sheet) c ≡ false → change sheet ws c ≡ refused 6 ws
+        pub refuses-tied : tiedStay (sheetOf sheet) c ≡ false → change sheet ws c ≡ refused 6 ws
         unfolding changeRefusal called
-        refuses-6 e = numbered 6 (rw (ok, eq-eqb (length ws) (storeLength (sheetOf sheet)) long, good, e))
+        refuses-tied e = numbered 6 (rw (ok, eq-eqb (length ws) (storeLength (sheetOf sheet)) long, good, e))
 
         module _ (stay : tiedStay (sheetOf sheet) c ≡ true) where
-          pub refuses-7 : sound (sheetOf sheet) ws ≡ false → change sheet ws c ≡ refused 7 ws
+          pub refuses-unsound : sound (sheetOf sheet) ws ≡ false → change sheet ws c ≡ refused 7 ws
           unfolding changeRefusal called
-          refuses-7 e = numbered 7 (rw (ok, eq-eqb (length ws) (storeLength (sheetOf sheet)) long, good, stay, e))
+          refuses-unsound e = numbered 7 (rw (ok, eq-eqb (length ws) (storeLength (sheetOf sheet)) long, good, stay, e))
 
           -- past them
           pub change-is : sound (sheetOf sheet) ws ≡ true → change sheet ws c ≡ applied (sheetOf sheet) ws c

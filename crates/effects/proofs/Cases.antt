@@ -23,9 +23,9 @@ use Rattle.effects.specs.Applied.{applied, done, nothing}
 use Rattle.effects.proofs.Rooms.{listAfter, fits-after, side-room, list-room}
 
 module _ (s : Sheet) (g : Good s) (ws : Words) (ok : T (sound s ws)) (c : Change) (l : c .table < s .n) where
-  pub applied-8 : agrees s (modelOf s ws) c ≡ false → applied s ws c ≡ refused 8 ws
+  pub applied-contradicts : agrees s (modelOf s ws) c ≡ false → applied s ws c ≡ refused 8 ws
   unfolding applied
-  applied-8 e = rw e
+  applied-contradicts e = rw e
 
   -- the room after the change
   fits-by : (x : Effect) → effect s (modelOf s ws) c ≡ x
@@ -36,10 +36,10 @@ module _ (s : Sheet) (g : Good s) (ws : Words) (ok : T (sound s ws)) (c : Change
       ∙ fits-after s (modelOf s ws) (model-many s ws) (sound-fits s g ws ok) (c .table) l x
 
   module _ (agree : agrees s (modelOf s ws) c ≡ true) (x : Effect) (e : effect s (modelOf s ws) c ≡ x) where
-    pub applied-9 : (room s (c .table) < length (sideAfter (modelOf s ws) (c .table) x)) ⊎ (room s (s .n) < length (listAfter (modelOf s ws) x))
+    pub applied-no-room : (room s (c .table) < length (sideAfter (modelOf s ws) (c .table) x)) ⊎ (room s (s .n) < length (listAfter (modelOf s ws) x))
         → applied s ws c ≡ refused 9 ws
     unfolding applied
-    applied-9 h = rw (agree, fits-by x e) (go h)
+    applied-no-room h = rw (agree, fits-by x e) (go h)
       where
         side : ℕ
         side = length (sideAfter (modelOf s ws) (c .table) x)

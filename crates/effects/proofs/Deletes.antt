@@ -22,14 +22,14 @@ use Rattle.laws.proofs.Stores.{model-side}
 use Rattle.laws.proofs.Changes.{made}
 use Rattle.effects.specs.Applied.{applied, done, nothing, walkRows, Marked}
 use Rattle.effects.proofs.Rooms.{length-takes-le, side-room, list-room}
-use Rattle.effects.proofs.Cases.{applied-8, applied-done, applied-nothing, done-same}
+use Rattle.effects.proofs.Cases.{applied-contradicts, applied-done, applied-nothing, done-same}
 use Rattle.effects.proofs.Rows.{list-rising, walk-rows}
 
 module _ (s : Sheet) (g : Good s) (ws : Words) (ok : T (sound s ws)) (t : ℕ) (l : t < s .n) (r o : Row) where
   -- 8: its shown columns are missing, or its key is there though it isn't qualified
-  pub delete-8-side : oldRow s (modelOf s ws) t r ≡ false → applied s ws (made 2 t r o) ≡ refused 8 ws
+  pub delete-contradicts-side : oldRow s (modelOf s ws) t r ≡ false → applied s ws (made 2 t r o) ≡ refused 8 ws
   unfolding agrees
-  delete-8-side e = applied-8 s g ws ok (made 2 t r o) l (rw e)
+  delete-contradicts-side e = applied-contradicts s g ws ok (made 2 t r o) l (rw e)
 
   module _ (old : oldRow s (modelOf s ws) t r ≡ true) where
     -- a row that isn't qualified changes nothing
@@ -48,8 +48,8 @@ module _ (s : Sheet) (g : Good s) (ws : Words) (ok : T (sound s ws)) (t : ℕ) (
       agree = rw (old, q) (has-same (rowsThrough s (modelOf s ws) t r) (walkRows s (modelOf s ws) t r) (rowsAt s ws (s .n)) (walk-rows s g ws ok t l r (isT q)))
 
       -- 8: they aren't there as often
-      pub delete-8-list : hasRows (walkRows s (modelOf s ws) t r) (rowsAt s ws (s .n)) ≡ false → applied s ws (made 2 t r o) ≡ refused 8 ws
-      delete-8-list e = applied-8 s g ws ok (made 2 t r o) l (agree ∙ e)
+      pub delete-contradicts-list : hasRows (walkRows s (modelOf s ws) t r) (rowsAt s ws (s .n)) ≡ false → applied s ws (made 2 t r o) ≡ refused 8 ws
+      delete-contradicts-list e = applied-contradicts s g ws ok (made 2 t r o) l (agree ∙ e)
 
       -- its shown columns leave the side table, and the rows of its ways the list
       pub delete-done : (marks : Words) → Marked (walkRows s (modelOf s ws) t r) (rowsAt s ws (s .n)) marks

@@ -25,14 +25,14 @@ use Rattle.laws.proofs.Changes.{made, side-row-none, sideAfter}
 use Rattle.walks.proofs.Marks.{puts-sorted}
 use Rattle.effects.specs.Applied.{applied, done, nothing, walkRows}
 use Rattle.effects.proofs.Rooms.{listAfter}
-use Rattle.effects.proofs.Cases.{applied-8, applied-9, applied-done, applied-nothing, done-same}
+use Rattle.effects.proofs.Cases.{applied-contradicts, applied-no-room, applied-done, applied-nothing, done-same}
 use Rattle.effects.proofs.Rows.{list-rising, walk-rows, side-row-one}
 
 module _ (s : Sheet) (g : Good s) (ws : Words) (ok : T (sound s ws)) (t : ℕ) (l : t < s .n) (o r : Row) where
   -- 8: the key stands in the kept side table
-  pub insert-8 : hasKey (key r) (rowsAt s ws t) ≡ true → applied s ws (made 1 t o r) ≡ refused 8 ws
+  pub insert-contradicts : hasKey (key r) (rowsAt s ws t) ≡ true → applied s ws (made 1 t o r) ≡ refused 8 ws
   unfolding agrees newKey
-  insert-8 e = applied-8 s g ws ok (made 1 t o r) l (rw (model-side s ws t l, e))
+  insert-contradicts e = applied-contradicts s g ws ok (made 1 t o r) l (rw (model-side s ws t l, e))
 
   module _ (new : hasKey (key r) (rowsAt s ws t) ≡ false) where
     agree : agrees s (modelOf s ws) (made 1 t o r) ≡ true
@@ -76,13 +76,13 @@ module _ (s : Sheet) (g : Good s) (ws : Words) (ok : T (sound s ws)) (t : ℕ) (
           ∙ sym (total-append f (rowsAt s ws (s .n)) (rowsThrough s (modelOf s ws) t r)))
 
       -- 9: the side table is full, or the list has not so much room
-      pub insert-9-side : T (kept s t) → room s t ≤ count s ws t → applied s ws (made 1 t o r) ≡ refused 9 ws
-      insert-9-side k h =
-          applied-9 s g ws ok (made 1 t o r) l agree (insertEffect s (modelOf s ws) t r) effect-is
+      pub insert-no-room-side : T (kept s t) → room s t ≤ count s ws t → applied s ws (made 1 t o r) ≡ refused 9 ws
+      insert-no-room-side k h =
+          applied-no-room s g ws ok (made 1 t o r) l agree (insertEffect s (modelOf s ws) t r) effect-is
           (inl (omega (arith, side-many, ap length (side-row-one s t r k))))
 
-      pub insert-9-list : room s (s .n) < length (walkRows s (modelOf s ws) t r) + count s ws (s .n) → applied s ws (made 1 t o r) ≡ refused 9 ws
-      insert-9-list h = applied-9 s g ws ok (made 1 t o r) l agree (insertEffect s (modelOf s ws) t r) effect-is (inr (omega (arith, list-many)))
+      pub insert-no-room-list : room s (s .n) < length (walkRows s (modelOf s ws) t r) + count s ws (s .n) → applied s ws (made 1 t o r) ≡ refused 9 ws
+      insert-no-room-list h = applied-no-room s g ws ok (made 1 t o r) l agree (insertEffect s (modelOf s ws) t r) effect-is (inr (omega (arith, list-many)))
 
       -- its shown columns enter the side table, and the list gains a row for each way
       pub insert-done : (T (kept s t) → count s ws t < room s t) → length (walkRows s (modelOf s ws) t r) + count s ws (s .n) ≤ room s (s .n)

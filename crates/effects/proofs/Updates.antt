@@ -26,14 +26,14 @@ use Rattle.walks.proofs.Marks.{puts-words}
 use Rattle.walks.proofs.Updates.{Tied, update-rows}
 use Rattle.effects.specs.Applied.{applied, done, nothing, walkRows, replacedRows, Marked}
 use Rattle.effects.proofs.Rooms.{listAfter, side-room, list-room}
-use Rattle.effects.proofs.Cases.{applied-8, applied-done, applied-nothing, done-same}
+use Rattle.effects.proofs.Cases.{applied-contradicts, applied-done, applied-nothing, done-same}
 use Rattle.effects.proofs.Rows.{list-rising, walk-rows, side-row-long, side-has}
 
 module _ (s : Sheet) (g : Good s) (ws : Words) (ok : T (sound s ws)) (t : ℕ) (l : t < s .n) (r r′ : Row) where
   -- 8: its shown columns are missing, or its key is there though it isn't qualified
-  pub update-8-side : oldRow s (modelOf s ws) t r ≡ false → applied s ws (made 3 t r r′) ≡ refused 8 ws
+  pub update-contradicts-side : oldRow s (modelOf s ws) t r ≡ false → applied s ws (made 3 t r r′) ≡ refused 8 ws
   unfolding agrees
-  update-8-side e = applied-8 s g ws ok (made 3 t r r′) l (rw e)
+  update-contradicts-side e = applied-contradicts s g ws ok (made 3 t r r′) l (rw e)
 
   module _ (old : oldRow s (modelOf s ws) t r ≡ true) where
     -- a row that isn't qualified changes nothing
@@ -42,9 +42,9 @@ module _ (s : Sheet) (g : Good s) (ws : Words) (ok : T (sound s ws)) (t : ℕ) (
     update-none e = applied-nothing s g ws ok (made 3 t r r′) l (rw (old, e)) (rw e)
 
     -- 8: list rows found by key show other values
-    pub update-8-shown : foundShow s (modelOf s ws) t r ≡ false → applied s ws (made 3 t r r′) ≡ refused 8 ws
+    pub update-contradicts-shown : foundShow s (modelOf s ws) t r ≡ false → applied s ws (made 3 t r r′) ≡ refused 8 ws
     unfolding agrees
-    update-8-shown e = applied-8 s g ws ok (made 3 t r r′) l (rw (old, e))
+    update-contradicts-shown e = applied-contradicts s g ws ok (made 3 t r r′) l (rw (old, e))
 
     module _ (q : qualifies s (modelOf s ws) t r ≡ true) (show : foundShow s (modelOf s ws) t r ≡ true) where
       effect-is : effect s (modelOf s ws) (made 3 t r r′) ≡ updateEffect s (modelOf s ws) t r r′
@@ -65,8 +65,8 @@ module _ (s : Sheet) (g : Good s) (ws : Words) (ok : T (sound s ws)) (t : ℕ) (
       agree = rw (old, show, q) (has-same (updateEffect s (modelOf s ws) t r r′ .listOut) (replacedRows s (modelOf s ws) t r) (rowsAt s ws (s .n)) out)
 
       -- 8: they aren't there as often
-      pub update-8-list : hasRows (replacedRows s (modelOf s ws) t r) (rowsAt s ws (s .n)) ≡ false → applied s ws (made 3 t r r′) ≡ refused 8 ws
-      update-8-list e = applied-8 s g ws ok (made 3 t r r′) l (agree ∙ e)
+      pub update-contradicts-list : hasRows (replacedRows s (modelOf s ws) t r) (rowsAt s ws (s .n)) ≡ false → applied s ws (made 3 t r r′) ≡ refused 8 ws
+      update-contradicts-list e = applied-contradicts s g ws ok (made 3 t r r′) l (agree ∙ e)
 
       side-many : length (sideAfter (modelOf s ws) t (updateEffect s (modelOf s ws) t r r′)) ≡ length (rowsOf (modelOf s ws .sides) t)
       unfolding updateEffect

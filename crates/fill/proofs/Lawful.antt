@@ -30,7 +30,7 @@ use Rattle.walks.specs.Walk.{Keyed}
 use Rattle.outward.specs.Orders.{Ordered}
 use Rattle.filling.specs.Written.{listFits}
 use Rattle.filling.proofs.Walks.{lawful-keyed}
-use Rattle.filling.proofs.Outcomes.{fill-9, fill-done, fits-is}
+use Rattle.filling.proofs.Outcomes.{fill-no-room, fill-done, fits-is}
 use Rattle.store.proofs.Plans.{list-lies}
 use Rattle.base.specs.Bases.{tablesOf}
 use Rattle.base.proofs.Steps.{good-of}
@@ -71,7 +71,7 @@ module _ {ws store run : Words} {plan : Plan} {starts numbers : List ℕ} (st : 
   fits-are b c e f = fits-is (sheetOf ws) (tablesOf ws run) ∙ rw (sym (fits-all ws run) ∙ e, f)
 
   full : fits (sheetOf ws) (meaning (sheetOf ws) (baseOf (sheetOf ws) run)) ≡ false → Says (fill ws store run) (Refused 9) store
-  full f = says-refused (fill ws store run) 9 store (λ z. omega arith) (fill-9 ws store run (st .good .not-refused) (st .long) base-is f)
+  full f = says-refused (fill ws store run) 9 store (λ z. omega arith) (fill-no-room ws store run (st .good .not-refused) (st .long) base-is f)
 
   pub sides-refused : every (fitsNo ws run) (tableCount ws) ≡ false → Says (fill ws store run) (Refused 9) store
   sides-refused e = full (fits-are false (listFits (sheetOf ws) (tablesOf ws run)) e refl)

@@ -26,7 +26,7 @@ use Rattle.store.proofs.Checks.{check-good, check-plan, check-refused, check-nu
 use Rattle.store.proofs.Plans.{store-is}
 use Rattle.filling.specs.Runs.{goodRun}
 use Rattle.filling.proofs.Runs.{base-good}
-use Rattle.filling.proofs.Outcomes.{fill-sheet, fill-4, fill-10}
+use Rattle.filling.proofs.Outcomes.{fill-sheet, fill-length, fill-bad-base}
 use Rattle.base.specs.Bases.{tablesOf}
 use Rattle.fill.specs.Tested.{Stored}
 
@@ -57,12 +57,12 @@ module _ (ws : Words) (c : Checked) (e : c ≡ checkedOf ws) where
     stored store l = record { good = good; planned = check-plan ws c e g; long = l ∙ long-is }
 
     pub short-refused : (store run : Words) → (length store ≡ c .plan .store → ⊥) → Says (fill ws store run) (Refused 4) store
-    short-refused store run d = says-refused (fill ws store run) 4 store (λ z. omega arith) (fill-4 ws store run zero (λ l. d (l ∙ sym long-is)))
+    short-refused store run d = says-refused (fill ws store run) 4 store (λ z. omega arith) (fill-length ws store run zero (λ l. d (l ∙ sym long-is)))
 
 -- Refusal 10
 module _ {ws store : Words} {plan : Plan} (st : Stored ws plan store) (run : Words) where
   base-refused : goodBase (sheetOf ws) run ≡ false → Says (fill ws store run) (Refused 10) store
-  base-refused b = says-refused (fill ws store run) 10 store (λ z. omega arith) (fill-10 ws store run (st .good .not-refused) (st .long) b)
+  base-refused b = says-refused (fill ws store run) 10 store (λ z. omega arith) (fill-bad-base ws store run (st .good .not-refused) (st .long) b)
 
   pub run-refused : goodRun (sheetOf ws) run ≡ false → Says (fill ws store run) (Refused 10) store
   run-refused b = base-refused (base-good (sheetOf ws) run ∙ ap (λ (a : Bool). a && lawful (sheetOf ws) (baseOf (sheetOf ws) run)) b)

@@ -1,6 +1,9 @@
 // The fill call: the store of a sheet written anew from its base tables, which are tested first.
 use layout::Plan;
+use sheet::BAD_BASE;
+use sheet::NO_ROOM;
 use sheet::Verdict;
+use sheet::WRONG_LENGTH;
 use store::Answer;
 ghost use mathlib.Core.Path.{_≡_};
 ghost use mathlib.Core.Bool.{true};
@@ -36,14 +39,14 @@ fn fill_lawful(
     ensures { λ a. ⌜ Says (Meant.fill (now (sheet .entry)) (now (store .entry)) (now (run .entry))) a (now (store .exit)) ⌝ }
 {
     if !fillsides::sides_fit(sheet, plan, run, starts, numbers) {
-        return Answer::Refused(9);
+        return Answer::Refused(NO_ROOM);
     }
     let root = plan.root;
     let order = outward::order_of(sheet, root);
     let list = store::part_of(plan, plan.tables);
     let added = listing::count_list(sheet, run, starts, numbers, root, order);
     if list.room < added {
-        return Answer::Refused(9);
+        return Answer::Refused(NO_ROOM);
     }
     clear(store);
     fillsides::write_sides(sheet, plan, run, starts, numbers, store);
@@ -62,7 +65,7 @@ fn fill_run(sheet: &[u64], plan: Plan, run: &[u64], store: &mut [u64]) -> Answer
     let mut spare = [0u16; 32768];
     base::order_tables(sheet, run, starts, &mut numbers, &mut spare);
     if !base::is_lawful(sheet, run, starts, &numbers) {
-        return Answer::Refused(10);
+        return Answer::Refused(BAD_BASE);
     }
     fill_lawful(sheet, plan, run, starts, &numbers, store)
 }
@@ -78,10 +81,10 @@ pub fn fill(sheet: &[u64], base: &[u64], store: &mut [u64]) -> Answer
         return Answer::Refused(sheet::number_of(v));
     };
     if store.len() != plan.store {
-        return Answer::Refused(4);
+        return Answer::Refused(WRONG_LENGTH);
     }
     if !base::run_ok(sheet, base) {
-        return Answer::Refused(10);
+        return Answer::Refused(BAD_BASE);
     }
     fill_run(sheet, plan, base, store)
 }

@@ -40,19 +40,19 @@ module _ (sheet store run : Words) where
       is = fill-number sheet store run ∙ refusal
 
   module _ (good : sheetRefusal sheet ≡ 0) where
-    pub fill-4 : (length store ≡ storeLength (sheetOf sheet) → ⊥) → fill sheet store run ≡ refused 4 store
+    pub fill-length : (length store ≡ storeLength (sheetOf sheet) → ⊥) → fill sheet store run ≡ refused 4 store
     unfolding fill fillRefusal
-    fill-4 d = rw (good, ne-eqb (length store) (storeLength (sheetOf sheet)) d)
+    fill-length d = rw (good, ne-eqb (length store) (storeLength (sheetOf sheet)) d)
 
     module _ (long : length store ≡ storeLength (sheetOf sheet)) where
-      pub fill-10 : goodBase (sheetOf sheet) run ≡ false → fill sheet store run ≡ refused 10 store
+      pub fill-bad-base : goodBase (sheetOf sheet) run ≡ false → fill sheet store run ≡ refused 10 store
       unfolding fill fillRefusal
-      fill-10 b = rw (good, eq-eqb (length store) (storeLength (sheetOf sheet)) long, b)
+      fill-bad-base b = rw (good, eq-eqb (length store) (storeLength (sheetOf sheet)) long, b)
 
       module _ (lawful : goodBase (sheetOf sheet) run ≡ true) where
-        pub fill-9 : fits (sheetOf sheet) (meaning (sheetOf sheet) (baseOf (sheetOf sheet) run)) ≡ false → fill sheet store run ≡ refused 9 store
+        pub fill-no-room : fits (sheetOf sheet) (meaning (sheetOf sheet) (baseOf (sheetOf sheet) run)) ≡ false → fill sheet store run ≡ refused 9 store
         unfolding fill fillRefusal
-        fill-9 f = rw (good, eq-eqb (length store) (storeLength (sheetOf sheet)) long, lawful, f)
+        fill-no-room f = rw (good, eq-eqb (length store) (storeLength (sheetOf sheet)) long, lawful, f)
 
         pub fill-done : fits (sheetOf sheet) (meaning (sheetOf sheet) (baseOf (sheetOf sheet) run)) ≡ true → fill sheet store run ≡ filled (sheetOf sheet) run
         unfolding fill fillRefusal

@@ -18,7 +18,7 @@ use Rattle.meaning.specs.Change.{qualifies, sideRow, newKey}
 use Rattle.laws.proofs.Stores.{model-side, rows-count}
 use Rattle.laws.proofs.Changes.{made}
 use Rattle.effects.specs.Applied.{applied, walkRows}
-use Rattle.effects.proofs.Inserts.{insert-8, insert-none, insert-9-side, insert-9-list, insert-done}
+use Rattle.effects.proofs.Inserts.{insert-contradicts, insert-none, insert-no-room-side, insert-no-room-list, insert-done}
 use Rattle.layout.specs.declared.Plan.{Plan}
 use Rattle.ways.specs.declared.Route.{Route}
 use Rattle.ways.specs.Grounds.{Lent}
@@ -43,10 +43,10 @@ module _ {ws store : Words} {plan : Plan} {p : Route} (rd : Ready ws store plan 
 
   -- "an insert whose key is in R's kept side table", also if the row isn't qualified
   module _ (b : Bool) (e : b ≡ newKey (modelOf (sheetOf ws) store) t r) where
-    pub inserts-8 : not b ≡ true → Inserts ws store t r (Refused 8) store
-    inserts-8 h =
+    pub inserts-contradicts : not b ≡ true → Inserts ws store t r (Refused 8) store
+    inserts-contradicts h =
         let there : hasKey (key r) (rowsAt (sheetOf ws) store t) ≡ true = not-false (hasKey (key r) (rowsAt (sheetOf ws) store t)) (sym (key-is b e) ∙ not-true b h) in
-        record { says = λ o. says-refused (applied (sheetOf ws) store (made 1 t o r)) 8 store (λ z. omega arith) (insert-8 (sheetOf ws) (ready-good rd) store (rd .sound) t (ready-table rd lent) o r there) }
+        record { says = λ o. says-refused (applied (sheetOf ws) store (made 1 t o r)) 8 store (λ z. omega arith) (insert-contradicts (sheetOf ws) (ready-good rd) store (rd .sound) t (ready-table rd lent) o r there) }
 
     module _ (h : not b ≡ false) where
       new : hasKey (key r) (rowsAt (sheetOf ws) store t) ≡ false
@@ -67,23 +67,23 @@ module _ {ws store : Words} {plan : Plan} {p : Route} (rd : Ready ws store plan 
 
           -- its side table is full
           module _ (c : Bool) (ec : c ≡ hasRoom (sheetOf ws) store t) where
-            pub inserts-9-side : not c ≡ true → Inserts ws store t r (Refused 9) store
-            inserts-9-side full =
+            pub inserts-no-room-side : not c ≡ true → Inserts ws store t r (Refused 9) store
+            inserts-no-room-side full =
                 let f = room-full (sheetOf ws) store t (sym ec ∙ not-true c full) in
                 record {
                   says = λ o. says-refused (applied (sheetOf ws) store (made 1 t o r)) 9 store (λ z. omega arith)
-                      (insert-9-side (sheetOf ws) (ready-good rd) store (rd .sound) t (ready-table rd lent) o r new fine (f .0) (f .1));
+                      (insert-no-room-side (sheetOf ws) (ready-good rd) store (rd .sound) t (ready-table rd lent) o r new fine (f .0) (f .1));
                 }
 
             -- the list has not so much room
             module _ (free : not c ≡ false) (list : Part) (lies : Lies (sheetOf ws) (sheetOf ws .n) list) (k : ℕ) (many : k ≡ length (walkRows (sheetOf ws) (modelOf (sheetOf ws) store) t r)) where
-              pub inserts-9-list : list .room - countIn list store < k → Inserts ws store t r (Refused 9) store
-              inserts-9-list full =
+              pub inserts-no-room-list : list .room - countIn list store < k → Inserts ws store t r (Refused 9) store
+              inserts-no-room-list full =
                   let more : room (sheetOf ws) (sheetOf ws .n) < length (walkRows (sheetOf ws) (modelOf (sheetOf ws) store) t r) + count (sheetOf ws) store (sheetOf ws .n) =
                   omega (arith, lies .room-is, count-is (sheetOf ws) (sheetOf ws .n) list lies store, many, list-room (sheetOf ws) (ready-good rd) store (rd .sound) list lies) in
                   record {
                     says = λ o. says-refused (applied (sheetOf ws) store (made 1 t o r)) 9 store (λ z. omega arith)
-                        (insert-9-list (sheetOf ws) (ready-good rd) store (rd .sound) t (ready-table rd lent) o r new fine more);
+                        (insert-no-room-list (sheetOf ws) (ready-good rd) store (rd .sound) t (ready-table rd lent) o r new fine more);
                   }
 
               module _ (enough : k ≤ list .room - countIn list store) where

@@ -1,5 +1,7 @@
 // An insert below its tests 1 to 7, on a sound store: contradiction, room, and then the list's rows and the side row.
 use layout::Plan;
+use sheet::CONTRADICTION;
+use sheet::NO_ROOM;
 use store::Answer;
 use ways::Route;
 ghost use Rattle.routes.specs.Ready.{Ready};
@@ -20,20 +22,20 @@ pub fn insert(
     ensures { λ a. ⌜ Inserts (now (sheet .entry)) (now (store .entry)) table (now (row .entry)) a (now (store .exit)) ⌝ }
 {
     if !sides::new_key(sheet, plan, store, table, row) {
-        return Answer::Refused(8);
+        return Answer::Refused(CONTRADICTION);
     }
     if !ways::is_qualified(sheet, route, store, table, row) {
         return Answer::Done(0, 0);
     }
     if !sides::has_room(sheet, plan, store, table) {
-        return Answer::Refused(9);
+        return Answer::Refused(NO_ROOM);
     }
     let list = store::part_of(plan, plan.tables);
     let slot = list.slot;
     let count = store[slot] as usize;
     let added = added::count_ways(sheet, route, store, table, row);
     if list.room - count < added {
-        return Answer::Refused(9);
+        return Answer::Refused(NO_ROOM);
     }
     added::add_ways(sheet, route, store, list, table, row);
     sides::put_side(sheet, plan, store, table, row);

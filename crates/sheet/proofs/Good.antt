@@ -46,17 +46,17 @@ tree-are ws r =
     last = omega (arith, n-is ws, r .counts .edges-right)
 
 module _ (ws : Words) where
-  pub refused-1 : goodCounts ws ≡ false → Refused 1 ≡ verdictOf ws
+  pub refused-counts : goodCounts ws ≡ false → Refused 1 ≡ verdictOf ws
   unfolding verdictOf sheetRefusal
-  refused-1 a = rw a
+  refused-counts a = rw a
 
-  pub refused-2 : goodCounts ws ≡ true → goodWords (sheetOf ws) ≡ false → Refused 2 ≡ verdictOf ws
+  pub refused-words : goodCounts ws ≡ true → goodWords (sheetOf ws) ≡ false → Refused 2 ≡ verdictOf ws
   unfolding verdictOf sheetRefusal
-  refused-2 a b = rw (a, b)
+  refused-words a b = rw (a, b)
 
-  pub refused-3 : goodCounts ws ≡ true → goodWords (sheetOf ws) ≡ true → goodTree (sheetOf ws) ≡ false → Refused 3 ≡ verdictOf ws
+  pub refused-tree : goodCounts ws ≡ true → goodWords (sheetOf ws) ≡ true → goodTree (sheetOf ws) ≡ false → Refused 3 ≡ verdictOf ws
   unfolding verdictOf sheetRefusal
-  refused-3 a b c = rw (a, b, c)
+  refused-tree a b c = rw (a, b, c)
 
   pub passed : goodCounts ws ≡ true → goodWords (sheetOf ws) ≡ true → goodTree (sheetOf ws) ≡ true → Good ≡ verdictOf ws
   unfolding verdictOf sheetRefusal

@@ -20,7 +20,7 @@ use Rattle.walks.specs.Marks.{altered, isMarked}
 use Rattle.walks.proofs.Updates.{Tied}
 use Rattle.effects.specs.Applied.{applied, replacedRows}
 use Rattle.effects.proofs.Rows.{side-there}
-use Rattle.effects.proofs.Updates.{update-8-side, update-none, update-8-shown, update-8-list, update-done}
+use Rattle.effects.proofs.Updates.{update-contradicts-side, update-none, update-contradicts-shown, update-contradicts-list, update-done}
 use Rattle.layout.specs.declared.Plan.{Plan}
 use Rattle.columns.specs.Gives.{gives}
 use Rattle.ways.specs.declared.Route.{Route}
@@ -41,11 +41,11 @@ use Rattle.update.specs.Updates.{ReplacedTaken, Updates}
 module _ {ws store : Words} {plan : Plan} {p : Route} (rd : Ready ws store plan p) {t : ℕ} {r : Row} (lent : Lent ws t r) (r′ : Row)
     (q : Bool) (eq : q ≡ qualifies (sheetOf ws) (modelOf (sheetOf ws) store) t r) (b : Bool) (eb : b ≡ oldRow (sheetOf ws) (modelOf (sheetOf ws) store) t r) where
   -- the side table contradicts it
-  pub updates-8-side : not b ≡ true → Updates ws store t r r′ (Refused 8) store
-  updates-8-side h =
+  pub updates-contradicts-side : not b ≡ true → Updates ws store t r r′ (Refused 8) store
+  updates-contradicts-side h =
       record {
         says = says-refused (applied (sheetOf ws) store (made 3 t r r′)) 8 store (λ z. omega arith)
-            (update-8-side (sheetOf ws) (ready-good rd) store (rd .sound) t (ready-table rd lent) r r′ (sym eb ∙ not-true b h));
+            (update-contradicts-side (sheetOf ws) (ready-good rd) store (rd .sound) t (ready-table rd lent) r r′ (sym eb ∙ not-true b h));
       }
 
   module _ (h : not b ≡ false) where
@@ -64,13 +64,13 @@ module _ {ws store : Words} {plan : Plan} {p : Route} (rd : Ready ws store plan 
       fine = sym eq ∙ not-false q f
 
       -- the list does
-      pub updates-8-list : a ≡ Contrary → Updates ws store t r r′ (Refused 8) store
-      updates-8-list e =
+      pub updates-contradicts-list : a ≡ Contrary → Updates ws store t r r′ (Refused 8) store
+      updates-contradicts-list e =
           let s = sheetOf ws in
           record {
             says = says-refused (applied s store (made 3 t r r′)) 8 store (λ z. omega arith)
-                (⊎-elim (λ x. update-8-shown s (ready-good rd) store (rd .sound) t (ready-table rd lent) r r′ old x)
-                (λ x. update-8-list s (ready-good rd) store (rd .sound) t (ready-table rd lent) r r′ old fine (x .0) (x .1))
+                (⊎-elim (λ x. update-contradicts-shown s (ready-good rd) store (rd .sound) t (ready-table rd lent) r r′ old x)
+                (λ x. update-contradicts-list s (ready-good rd) store (rd .sound) t (ready-table rd lent) r r′ old fine (x .0) (x .1))
                 (subst (ReplacedTaken ws store t r marks) e m fine));
           }
 

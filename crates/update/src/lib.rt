@@ -1,5 +1,6 @@
 // An update below its tests 1 to 7, on a sound store: contradiction, and then the list's rows and the side row are replaced.
 use layout::Plan;
+use sheet::CONTRADICTION;
 use store::Answer;
 use store::Part;
 use taken::Taken;
@@ -87,7 +88,7 @@ pub fn update(
 {
     let qualified = ways::is_qualified(sheet, route, store, table, old);
     if !sides::old_row(sheet, plan, store, table, old, qualified) {
-        return Answer::Refused(8);
+        return Answer::Refused(CONTRADICTION);
     }
     if !qualified {
         return Answer::Done(0, 0);
@@ -96,7 +97,7 @@ pub fn update(
     let mut marks = [0u16; 4096];
     let a = mark_replaced(sheet, plan, route, store, list, table, old, &mut marks);
     let Taken::All(k) = a else {
-        return Answer::Refused(8);
+        return Answer::Refused(CONTRADICTION);
     };
     replace_rows(sheet, store, list, &marks, k, table, new);
     sides::replace_side(sheet, plan, store, table, old, new);

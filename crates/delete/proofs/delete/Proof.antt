@@ -2,7 +2,7 @@ use Rattle.listpart.proofs.Lists.{list-kept}
 use Rattle.taken.proofs.Lists.{marks-enough}
 use mathlib.Core.Path.{refl}
 use Rattle.written.proofs.Halves.{ready-good, ready-ground, ready-list, ready-table, ready-tables, half-modelled}
-use Rattle.delete.proofs.Deleting.{deletes-8-side, deletes-none, deletes-8-list, deletes-done}
+use Rattle.delete.proofs.Deleting.{deletes-contradicts-side, deletes-none, deletes-contradicts-list, deletes-done}
 use borrow.Author.Needs.{needs}
 use Rattle.delete.proofs.delete.Statement.{statement}
 use Rattle.delete.proofs.delete.Tie as tie
@@ -29,7 +29,7 @@ same-length c = search needs
 
 -- src/lib.rt:35:9
 returns : tie.Need-returns
-returns c = let pre = c .before .before .before .before .before .before .before .before .pre in deletes-8-side (pre .0) (pre .1) _ (c .before .before .before .is-qualified .ensures) _ (c .before .old-row .ensures) (c .if1 .taken)
+returns c = let pre = c .before .before .before .before .before .before .before .before .pre in deletes-contradicts-side (pre .0) (pre .1) _ (c .before .before .before .is-qualified .ensures) _ (c .before .old-row .ensures) (c .if1 .taken)
 
 -- src/lib.rt:38:9
 same-length-2 : tie.Need-same-length-2
@@ -65,7 +65,7 @@ same-length-3 c = search needs
 
 -- src/lib.rt:44:9
 returns-3 : tie.Need-returns-3
-returns-3 c = let pre = c .before .before .before .before .before .before .before .before .before .before .before .before .before .before .before .before .pre in deletes-8-list (pre .0) (pre .1) _ (c .before .before .before .before .before .before .before .before .before .before .before .is-qualified .ensures) _ (c .before .before .before .before .before .before .before .before .before .old-row .ensures) (c .before .before .before .before .before .before .before .before .if1 .left) (c .before .before .before .before .before .before .before .if2 .left) _ _ (c .before .before .before .mark-ways .ensures) (c .enum-told .given .1)
+returns-3 c = let pre = c .before .before .before .before .before .before .before .before .before .before .before .before .before .before .before .before .pre in deletes-contradicts-list (pre .0) (pre .1) _ (c .before .before .before .before .before .before .before .before .before .before .before .is-qualified .ensures) _ (c .before .before .before .before .before .before .before .before .before .old-row .ensures) (c .before .before .before .before .before .before .before .before .if1 .left) (c .before .before .before .before .before .before .before .if2 .left) _ _ (c .before .before .before .mark-ways .ensures) (c .enum-told .given .1)
 
 -- src/lib.rt:46:37
 slice-aggregate-take-marked : tie.Need-slice-aggregate-take-marked

@@ -1,7 +1,7 @@
 use Rattle.listpart.proofs.Lists.{list-room}
 use Rattle.written.proofs.Halves.{ready-good, ready-ground, ready-list, ready-table, half-modelled}
 use Rattle.added.proofs.Putting.{list-within}
-use Rattle.insert.proofs.Inserting.{inserts-8, inserts-none, inserts-9-side, inserts-9-list, adding, half-room, inserts-done}
+use Rattle.insert.proofs.Inserting.{inserts-contradicts, inserts-none, inserts-no-room-side, inserts-no-room-list, adding, half-room, inserts-done}
 use borrow.Author.Needs.{needs}
 use native.Mathlib.Omega.{arith}
 use Rattle.insert.proofs.insert.Statement.{statement}
@@ -26,7 +26,7 @@ same-length c = search needs
 
 -- src/lib.rt:33:9
 returns : tie.Need-returns
-returns c = inserts-8 (c .before .before .before .before .before .before .pre .0) (c .before .before .before .before .before .before .pre .1) _ (c .before .new-key .ensures) (c .if1 .taken)
+returns c = inserts-contradicts (c .before .before .before .before .before .before .pre .0) (c .before .before .before .before .before .before .pre .1) _ (c .before .new-key .ensures) (c .if1 .taken)
 
 -- src/lib.rt:35:9
 is-qualified-requires : tie.Need-is-qualified-requires
@@ -50,7 +50,7 @@ same-length-3 c = search needs
 
 -- src/lib.rt:39:9
 returns-3 : tie.Need-returns-3
-returns-3 c = inserts-9-side (c .before .before .before .before .before .before .before .before .before .before .before .before .pre .0) (c .before .before .before .before .before .before .before .before .before .before .before .before .pre .1) _ (c .before .before .before .before .before .before .before .new-key .ensures) (c .before .before .before .before .before .before .if1 .left) _ (c .before .before .before .before .is-qualified .ensures) (c .before .before .before .if2 .left) _ (c .before .has-room .ensures) (c .if3 .taken)
+returns-3 c = inserts-no-room-side (c .before .before .before .before .before .before .before .before .before .before .before .before .pre .0) (c .before .before .before .before .before .before .before .before .before .before .before .before .pre .1) _ (c .before .before .before .before .before .before .before .new-key .ensures) (c .before .before .before .before .before .before .if1 .left) _ (c .before .before .before .before .is-qualified .ensures) (c .before .before .before .if2 .left) _ (c .before .has-room .ensures) (c .if3 .taken)
 
 -- src/lib.rt:41:9
 part-of-requires : tie.Need-part-of-requires
@@ -78,7 +78,7 @@ same-length-4 c = search needs
 
 -- src/lib.rt:46:9
 returns-4 : tie.Need-returns-4
-returns-4 c = inserts-9-list (c .before .before .before .before .before .before .before .before .before .before .before .before .before .before .before .before .before .before .pre .0) (c .before .before .before .before .before .before .before .before .before .before .before .before .before .before .before .before .before .before .pre .1) _ (c .before .before .before .before .before .before .before .before .before .before .before .before .before .new-key .ensures) (c .before .before .before .before .before .before .before .before .before .before .before .before .if1 .left) _ (c .before .before .before .before .before .before .before .before .before .before .is-qualified .ensures) (c .before .before .before .before .before .before .before .before .before .if2 .left) _ (c .before .before .before .before .before .before .before .has-room .ensures) (c .before .before .before .before .before .before .if3 .left) _ (ready-list (c .before .before .before .before .before .before .before .before .before .before .before .before .before .before .before .before .before .before .pre .0) _ (c .before .before .before .before .before .part-of .ensures)) _ (c .before .before .count-ways .ensures) (c .if4 .taken)
+returns-4 c = inserts-no-room-list (c .before .before .before .before .before .before .before .before .before .before .before .before .before .before .before .before .before .before .pre .0) (c .before .before .before .before .before .before .before .before .before .before .before .before .before .before .before .before .before .before .pre .1) _ (c .before .before .before .before .before .before .before .before .before .before .before .before .before .new-key .ensures) (c .before .before .before .before .before .before .before .before .before .before .before .before .if1 .left) _ (c .before .before .before .before .before .before .before .before .before .before .is-qualified .ensures) (c .before .before .before .before .before .before .before .before .before .if2 .left) _ (c .before .before .before .before .before .before .before .has-room .ensures) (c .before .before .before .before .before .before .if3 .left) _ (ready-list (c .before .before .before .before .before .before .before .before .before .before .before .before .before .before .before .before .before .before .pre .0) _ (c .before .before .before .before .before .part-of .ensures)) _ (c .before .before .count-ways .ensures) (c .if4 .taken)
 
 -- src/lib.rt:48:5
 add-ways-requires : tie.Need-add-ways-requires

@@ -3,7 +3,7 @@
 use mathlib.Core.Path.{sym, _∙_}
 use borrow.Author.Tests.{not-true, not-false}
 use Rattle.sheet.proofs.Facts.{counts-facts, rules}
-use Rattle.sheet.proofs.Good.{refused-1, refused-2, refused-3, passed}
+use Rattle.sheet.proofs.Good.{refused-counts, refused-words, refused-tree, passed}
 use borrow.Author.Needs.{needs}
 use Rattle.sheet.proofs.verdict_of.Statement.{statement}
 use Rattle.sheet.proofs.verdict_of.Tie as tie
@@ -12,7 +12,7 @@ counts-ok-requires : tie.Need-counts-ok-requires
 counts-ok-requires c κs = search needs
 
 returns : tie.Need-returns
-returns c = refused-1 _ (sym (c .before .counts-ok .ensures) ∙ not-true _ (c .if1 .taken))
+returns c = refused-counts _ (sym (c .before .counts-ok .ensures) ∙ not-true _ (c .if1 .taken))
 
 words-ok-requires : tie.Need-words-ok-requires
 words-ok-requires c κs = counts-facts _ (sym (c .before .counts-ok .ensures) ∙ not-false _ (c .if1 .left))
@@ -22,7 +22,7 @@ returns-2 c =
     let at-words-ok = c .before in
     let at-if1 = at-words-ok .before in
     let at-counts-ok = at-if1 .before in
-    refused-2 _ (sym (at-counts-ok .counts-ok .ensures) ∙ not-false _ (at-if1 .if1 .left))
+    refused-words _ (sym (at-counts-ok .counts-ok .ensures) ∙ not-false _ (at-if1 .if1 .left))
     (sym (at-words-ok .words-ok .ensures) ∙ not-true _ (c .if2 .taken))
 
 tree-ok-requires : tie.Need-tree-ok-requires
@@ -40,7 +40,7 @@ returns-3 c =
     let at-words-ok = at-if2 .before in
     let at-if1 = at-words-ok .before in
     let at-counts-ok = at-if1 .before in
-    refused-3 _ (sym (at-counts-ok .counts-ok .ensures) ∙ not-false _ (at-if1 .if1 .left))
+    refused-tree _ (sym (at-counts-ok .counts-ok .ensures) ∙ not-false _ (at-if1 .if1 .left))
     (sym (at-words-ok .words-ok .ensures) ∙ not-false _ (at-if2 .if2 .left)) (sym (at-tree-ok .tree-ok .ensures) ∙ not-true _ (c .if3 .taken))
 
 returns-4 : tie.Need-returns-4

@@ -1,4 +1,4 @@
-use Rattle.ways.proofs.Treks.{root-8}
+use Rattle.ways.proofs.Treks.{root-few}
 use Rattle.written.proofs.Halves.{ready-ground}
 use Rattle.update.proofs.Replaced.{by-root, by-kept, no-way, by-key}
 use borrow.Author.Needs.{needs}
@@ -24,11 +24,11 @@ returns c = by-root (c .before .before .before .before .before .before .before .
 
 -- src/lib.rt:50:8
 mul-if2 : tie.Need-mul-if2
-mul-if2 c = omega (arith, root-8 (ready-ground (c .before .before .before .before .before .pre .0)))
+mul-if2 c = omega (arith, root-few (ready-ground (c .before .before .before .before .before .pre .0)))
 
 -- src/lib.rt:50:8
 element-copy-out-if2 : tie.Need-element-copy-out-if2
-element-copy-out-if2 c = omega (arith, root-8 (ready-ground (c .before .before .before .before .before .pre .0)))
+element-copy-out-if2 c = omega (arith, root-few (ready-ground (c .before .before .before .before .before .pre .0)))
 
 -- src/lib.rt:51:9
 mark-ways-requires-2 : tie.Need-mark-ways-requires-2

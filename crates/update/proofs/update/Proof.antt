@@ -3,7 +3,7 @@ use Rattle.written.proofs.Halves.{ready-good, ready-ground, ready-list, ready-t
 use Rattle.listpart.proofs.Lists.{list-columns, list-kept, list-room}
 use Rattle.taken.proofs.Lists.{marks-enough}
 use Rattle.taken.proofs.Finding.{fits-lent}
-use Rattle.update.proofs.Updating.{updates-8-side, updates-none, updates-8-list, replaceable, updates-done}
+use Rattle.update.proofs.Updating.{updates-contradicts-side, updates-none, updates-contradicts-list, replaceable, updates-done}
 use borrow.Author.Needs.{needs}
 use Rattle.update.proofs.update.Statement.{statement}
 use Rattle.update.proofs.update.Tie as tie
@@ -30,7 +30,7 @@ same-length c = search needs
 
 -- src/lib.rt:98:9
 returns : tie.Need-returns
-returns c = let pre = c .before .before .before .before .before .before .before .before .before .pre in updates-8-side (pre .0) (pre .1 .0) _ _ (c .before .before .before .is-qualified .ensures) _ (c .before .old-row .ensures) (c .if1 .taken)
+returns c = let pre = c .before .before .before .before .before .before .before .before .before .pre in updates-contradicts-side (pre .0) (pre .1 .0) _ _ (c .before .before .before .is-qualified .ensures) _ (c .before .old-row .ensures) (c .if1 .taken)
 
 -- src/lib.rt:101:9
 same-length-2 : tie.Need-same-length-2
@@ -66,7 +66,7 @@ same-length-3 c = search needs
 
 -- src/lib.rt:107:9
 returns-3 : tie.Need-returns-3
-returns-3 c = let pre = c .before .before .before .before .before .before .before .before .before .before .before .before .before .before .before .before .before .pre in updates-8-list (pre .0) (pre .1 .0) _ _ (c .before .before .before .before .before .before .before .before .before .before .before .is-qualified .ensures) _ (c .before .before .before .before .before .before .before .before .before .old-row .ensures) (c .before .before .before .before .before .before .before .before .if1 .left) (c .before .before .before .before .before .before .before .if2 .left) _ _ (c .before .before .before .mark-replaced .ensures) (c .enum-told .given .1)
+returns-3 c = let pre = c .before .before .before .before .before .before .before .before .before .before .before .before .before .before .before .before .before .pre in updates-contradicts-list (pre .0) (pre .1 .0) _ _ (c .before .before .before .before .before .before .before .before .before .before .before .is-qualified .ensures) _ (c .before .before .before .before .before .before .before .before .before .old-row .ensures) (c .before .before .before .before .before .before .before .before .if1 .left) (c .before .before .before .before .before .before .before .if2 .left) _ _ (c .before .before .before .mark-replaced .ensures) (c .enum-told .given .1)
 
 -- src/lib.rt:109:38
 slice-aggregate-replace-rows : tie.Need-slice-aggregate-replace-rows
