@@ -1,23 +1,23 @@
 -- Columns, rooms and starts of a good sheet: what the arrays hold, and how large it is.
 -- Assumes nothing.
-use Prim.Native.Nat.{ℕ, zero, suc, _+_, _*_, _/_, _%_, _<_, _≤_}
+use Prim.Native.Nat.{ℕ, zero, suc, _+_, _*_, _<_, _≤_}
 use mathlib.Core.Path.{_≡_, refl, sym, ap, ap₂, _∙_}
-use mathlib.Core.Bool.{Bool, true, false, _&&_}
-use mathlib.Core.List.{List, [], _∷_, map}
+use mathlib.Core.Bool.{Bool, true, false}
+use mathlib.Core.List.{List}
 use native.Mathlib.Nat.{mul-le-mul}
 use native.Mathlib.Numerals.{add-one}
 use native.Mathlib.Omega.{arith}
 use lib.Dec.{ltb}
 use lib.ListN.{length, getD, replicate, length-map}
-use borrow.Author.Tests.{lt-ltb, le-ltb, ltb-true, ltb-false}
-use Rattle.lists.specs.Lists.{Words, at, flat, member, upTo}
+use borrow.Author.Tests.{ltb-true, ltb-false}
+use Rattle.lists.specs.Lists.{Words, at, upTo}
 use Rattle.lists.specs.Totals.{one}
 use Rattle.lists.specs.Loops.{filled}
 use Rattle.lists.proofs.Truth.{isT, false→F}
 use Rattle.lists.proofs.Loops.{getD-filled}
 use Rattle.lists.proofs.Places.{length-from}
 use Rattle.meaning.specs.Sheet.{Sheet, sheetOf, width, room, tableCount, listedCount}
-use Rattle.meaning.specs.Plan.{dep, need, needIn, kept, isShown, shown, columns, size, start, storeLength}
+use Rattle.meaning.specs.Plan.{kept, isShown, shown, columns, size, start, storeLength}
 use Rattle.laws.proofs.Stores.{start-next}
 use Rattle.laws.proofs.Columns.{columns-side, columns-unkept, columns-list}
 use Rattle.sheet.specs.Counted.{counted}
@@ -25,9 +25,8 @@ use Rattle.sheet.specs.Numbered.{listingNo, roomNo}
 use Rattle.sheet.proofs.Words.{n-is, listed-are, room-is}
 use Rattle.sheet.proofs.Numbers.{length-upTo}
 use Rattle.sheet.specs.Tree.{GoodSheet}
-use Rattle.derive.specs.Derived.{depNo, needNo}
 use Rattle.layout.specs.Marks.{marked, markedIn}
-use Rattle.layout.specs.Plans.{keptAt, keptOf, showsOf, columnsOf, roomAt, roomsOf, startsOf, depAt, needAt}
+use Rattle.layout.specs.Plans.{keptAt, keptOf, showsOf, columnsOf, roomAt, roomsOf, startsOf}
 use Rattle.layout.proofs.Shown.{width-small, marked-columns}
 
 -- how many pass is no more than how many there are
@@ -40,25 +39,6 @@ counted-le t (suc n) = step (t n) (counted-le t n)
     step true h = omega arith
     step false h = omega arith
 
--- Dep is Dep+ over one edge
-flat-ones : (xs : List ℕ) → flat (map (λ p. p ∷ []) xs) ≡ xs
-flat-ones [] = refl
-flat-ones (x ∷ xs) = ap (λ (l : List ℕ). x ∷ l) (flat-ones xs)
-
-pub dep-mark : (ws : Words) (i v : ℕ) (b : Bool) → b ≡ depNo ws 1 (i / 8) (i % 8) → v ≡ one b → v ≡ depAt (sheetOf ws) i
-unfolding depNo depAt
-dep-mark ws i v b e m = m ∙ ap one (e ∙ ap (member (i % 8)) (flat-ones (dep (sheetOf ws) (i / 8))))
-
-pub need-none : (ws : Words) (i : ℕ) → tableCount ws ≤ i / 8 → 0 ≡ needAt (sheetOf ws) i
-unfolding needAt
-need-none ws i h = rw (n-is ws, le-ltb (i / 8) (tableCount ws) h)
-
-pub need-mark : (ws : Words) (i v : ℕ) (b : Bool) → i / 8 < tableCount ws → b ≡ needNo ws (tableCount ws) (i / 8) (i % 8) → v ≡ one b → v ≡ needAt (sheetOf ws) i
-unfolding needAt needNo need
-need-mark ws i v b h e m =
-    m ∙ ap one (e ∙ sym (ap₂ (λ (b : Bool) (k : ℕ). b && member (i % 8) (needIn (sheetOf ws) k (i / 8)))
-    (ap (ltb (i / 8)) (n-is ws) ∙ lt-ltb (i / 8) (tableCount ws) h) (n-is ws)))
-
 -- the parts stand one behind the other
 pub start-first : (s : Sheet) → start s 0 ≡ 9
 unfolding start
@@ -68,9 +48,9 @@ pub start-more : (s : Sheet) (part at v : ℕ) → at ≡ start s part → v ≡
 start-more s part at v e q = omega (arith, start-next s part, ap (start s) (add-one part))
 
 -- the room of a part, as the code reads it
-pub room-word : (ws : Words) (part : ℕ) → roomNo ws part ≡ roomAt (sheetOf ws) part
+pub room-read : (ws : Words) (part r : ℕ) → r ≡ roomNo ws part → r ≡ roomAt (sheetOf ws) part
 unfolding roomAt
-room-word ws part = sym (room-is ws part)
+room-read ws part r e = e ∙ sym (room-is ws part)
 
 -- a side table shows no more columns than the table has
 pub shown-few : (s : Sheet) (t : ℕ) → length (shown s t) ≤ width s t
@@ -84,10 +64,10 @@ part-read f ws g part h =
 
 module _ (ws : Words) (g : GoodSheet ws) where
   -- the columns of a part, as the code finds them
-  pub columns-of-list : (part : ℕ) → part ≤ tableCount ws → tableCount ws ≤ part → listedCount ws ≡ columns (sheetOf ws) part
-  columns-of-list part h l =
+  pub columns-of-list : (part p : ℕ) → part ≤ tableCount ws → tableCount ws ≤ part → p ≡ listedCount ws → p ≡ columns (sheetOf ws) part
+  columns-of-list part p h l e =
       let q : part ≡ sheetOf ws .n = omega (arith, n-is ws) in
-      rw (q, columns-list (sheetOf ws), listed-are ws) (sym (length-map (upTo (listedCount ws)) (listingNo ws) ∙ length-from 0 (listedCount ws)))
+      rw (q, columns-list (sheetOf ws), listed-are ws) (e ∙ sym (length-map (upTo (listedCount ws)) (listingNo ws) ∙ length-from 0 (listedCount ws)))
 
   module _ (part : ℕ) (marks : List ℕ) (e : marks ≡ keptOf (sheetOf ws)) (h : part < tableCount ws) where
     kept-read : getD marks part 0 ≡ one (kept (sheetOf ws) part)
@@ -103,7 +83,8 @@ module _ (ws : Words) (g : GoodSheet ws) where
         go true q w = absurd (omega arith)
         go false q w = sym (columns-unkept (sheetOf ws) part (omega (arith, n-is ws)) (false→F q))
 
-    pub columns-shown : (shows : List ℕ) (k : ℕ) → shows ≡ showsOf (sheetOf ws) → (getD marks part 0 ≡ 0 → ⊥) → k ≡ counted (marked shows part) 8 → k ≡ columns (sheetOf ws) part
+    pub columns-shown : (shows : List ℕ) (k : ℕ) → shows ≡ showsOf (sheetOf ws) → (getD marks part 0 ≡ 0 → ⊥) → k ≡ counted (marked shows part) 8
+        → k ≡ columns (sheetOf ws) part
     unfolding markedIn
     columns-shown shows k w z q = go (kept (sheetOf ws) part) refl kept-read
       where
@@ -129,7 +110,7 @@ module _ (ws : Words) (g : GoodSheet ws) where
       go true e false d =
           let l : part < sheetOf ws .n = omega (arith, ltb-true part (tableCount ws) e, n-is ws) in
           omega (arith, columns-unkept (sheetOf ws) part l (false→F d))
-      go false e d q = omega (arith, columns-of-list part h (ltb-false part (tableCount ws) e), g .joined .rules .counts .listed-few)
+      go false e d q = omega (arith, columns-of-list part (listedCount ws) h (ltb-false part (tableCount ws) e) refl, g .joined .rules .counts .listed-few)
 
   pub room-small : (part : ℕ) → part ≤ tableCount ws → room (sheetOf ws) part ≤ 4096
   room-small part h = omega (arith, room-is ws part, g .joined .rules .rooms part (omega arith) .high)
@@ -147,19 +128,22 @@ module _ (ws : Words) (g : GoodSheet ws) where
       → getD rooms part 0 * getD cols part 0 ≡ size (sheetOf ws) part
   unfolding size roomsOf columnsOf roomAt
   size-read rooms cols part e q h =
-      ap₂ (λ (x y : List ℕ). getD x part 0 * getD y part 0) e q ∙ ap₂ _*_ (part-read (roomAt (sheetOf ws)) ws g part h) (part-read (columns (sheetOf ws)) ws g part h)
+      ap₂ (λ (x y : List ℕ). getD x part 0 * getD y part 0) e q
+      ∙ ap₂ _*_ (part-read (roomAt (sheetOf ws)) ws g part h) (part-read (columns (sheetOf ws)) ws g part h)
 
   pub start-read : (starts : List ℕ) (part : ℕ) → starts ≡ startsOf (sheetOf ws) → part ≤ tableCount ws → getD starts part 0 ≡ start (sheetOf ws) part
   unfolding startsOf
   start-read starts part e h = rw (e, part-read (start (sheetOf ws)) ws g part h)
 
-  -- the list's place
-  pub list-start : (starts : List ℕ) → starts ≡ startsOf (sheetOf ws) → (getD starts (tableCount ws) 0 ≡ start (sheetOf ws) (tableCount ws)) × (getD starts (tableCount ws) 0 ≤ 9 + 8 * 65536)
-  list-start starts e =
-      let r = start-read starts (tableCount ws) e (omega arith) in
-      let l = start-small (tableCount ws) (omega arith) in
-      (r, omega (arith, g .joined .rules .counts .tables-few))
+  -- the list's place, and the store's end behind its room
+  module _ (starts : List ℕ) (e : starts ≡ startsOf (sheetOf ws)) (n : ℕ) (q : n ≡ tableCount ws) where
+    pub list-start : (getD starts n 0 ≡ start (sheetOf ws) n) × (getD starts n 0 ≤ 9 + 8 * 65536)
+    list-start =
+        let r = start-read starts n e (omega arith) in
+        let l = start-small n (omega arith) in
+        (r, omega (arith, g .joined .rules .counts .tables-few))
 
-  pub store-is : (a b : ℕ) → a ≡ start (sheetOf ws) (tableCount ws) → b ≡ size (sheetOf ws) (tableCount ws) → a + b ≡ storeLength (sheetOf ws)
-  unfolding storeLength
-  store-is a b e q = omega (arith, start-next (sheetOf ws) (tableCount ws), ap (λ (n : ℕ). start (sheetOf ws) (n + 1)) (n-is ws), ap (start (sheetOf ws)) (add-one (tableCount ws)))
+    pub store-is : (b : ℕ) → b ≡ size (sheetOf ws) n → getD starts n 0 + b ≡ storeLength (sheetOf ws)
+    unfolding storeLength
+    store-is b h =
+        omega (arith, list-start .0, start-next (sheetOf ws) n, ap (λ (k : ℕ). start (sheetOf ws) (k + 1)) (n-is ws ∙ sym q), ap (start (sheetOf ws)) (add-one n))
