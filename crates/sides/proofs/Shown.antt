@@ -28,7 +28,7 @@ at-pick r (c ∷ cols) (suc j) l = at-pick r cols j (le-of-suc-le-suc l)
 unfoldable pub shownValue : Sheet → ℕ → Row → ℕ → ℕ
 shownValue s t r j = at r (at (shown s t) j)
 
-module _ (s : Sheet) (p : Plan) (plan : GoodPlan s p) (t : ℕ) (l : t < s .n) (j n : ℕ) (long : n ≡ length (shown s t)) (k : j < n) where
+module _ {s : Sheet} {p : Plan} (plan : GoodPlan s p) (t : ℕ) (l : t < s .n) (j n : ℕ) (long : n ≡ length (shown s t)) (k : j < n) where
   -- its number stands in the plan
   pub shown-place : 8 * t + j < 64
   shown-place =
@@ -67,7 +67,7 @@ shown-end s t r k n old row len e a b h =
         ∙ sym (at-pick r (shown s t) i (omega (arith, long)))
 
 -- in a row of eight words
-module _ (s : Sheet) (p : Plan) (plan : GoodPlan s p) (t : ℕ) (l : t < s .n) (k : T (kept s t)) where
+module _ {s : Sheet} {p : Plan} (plan : GoodPlan s p) (t : ℕ) (l : t < s .n) (k : T (kept s t)) where
   pub shown-count : getD (p .columns) t 0 ≡ length (shown s t)
   shown-count = plan .planned .columns-at t (omega arith) ∙ columns-side s t l k
 

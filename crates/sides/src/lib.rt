@@ -5,14 +5,13 @@ ghost use mathlib.Core.Path.{_≡_};
 ghost use Prim.Native.Nat.{ℕ, _<_};
 ghost use lib.Dec.{T};
 ghost use lib.ListN.{length};
-ghost use Rattle.rows.specs.Rows.{Rows, pick, putRows, takeRows};
-ghost use Rattle.rows.specs.Ranks.{foundRow};
+ghost use Rattle.rows.specs.Rows.{pick};
 ghost use Rattle.meaning.specs.Sheet.{sheetOf, width};
 ghost use Rattle.meaning.specs.Plan.{kept, shown};
-ghost use Rattle.meaning.specs.Store.{modelOf, rowsAt, sound};
-ghost use Rattle.meaning.specs.Change.{qualifies, sideRow, newKey, oldRow};
+ghost use Rattle.meaning.specs.Store.{modelOf, sound};
+ghost use Rattle.meaning.specs.Change.{qualifies, newKey, oldRow};
 ghost use Rattle.store.specs.Plans.{GoodPlan};
-ghost use Rattle.sides.specs.Sides.{Begins, Modelled, hasRoom, Replaceable, Sided};
+ghost use Rattle.sides.specs.Sides.{Begins, foundSide, Modelled, hasRoom, Replaceable, SidePut, SideTaken, SideReplaced};
 
 // r's shown columns go into the lent row.
 pub fn side_row(sheet: &[u64], plan: Plan, t: usize, r: &[u64], row: &mut [u64])
@@ -52,7 +51,7 @@ fn find_side(sheet: &[u64], plan: Plan, store: &[u64], t: usize, r: &[u64]) -> F
     requires { ⌜ length (now r) ≡ width (sheetOf (now sheet)) t ⌝ }
     requires { ⌜ T (kept (sheetOf (now sheet)) t) ⌝ }
     requires { ⌜ Modelled (sheetOf (now sheet)) (now store) ⌝ }
-    ensures { λ f. ⌜ f ≡ foundRow (pick (shown (sheetOf (now (sheet .entry))) t) (now (r .entry))) (rowsAt (sheetOf (now (sheet .entry))) (now (store .entry)) t) ⌝ }
+    ensures { λ f. ⌜ f ≡ foundSide (sheetOf (now (sheet .entry))) (now (store .entry)) t (now (r .entry)) ⌝ }
 {
     let p = store::part_of(plan, t);
     let w = p.columns;
@@ -130,7 +129,7 @@ pub fn put_side(sheet: &[u64], plan: Plan, store: &mut [u64], t: usize, r: &[u64
     requires { ⌜ length (now r) ≡ width (sheetOf (now sheet)) t ⌝ }
     requires { ⌜ Modelled (sheetOf (now sheet)) (now store) ⌝ }
     requires { ⌜ T (hasRoom (sheetOf (now sheet)) (now store) t) ⌝ }
-    ensures { λ _. ⌜ Sided (sheetOf (now (sheet .entry))) t (putRows (sideRow (sheetOf (now (sheet .entry))) t (now (r .entry)))) (now (store .entry)) (now (store .exit)) ⌝ }
+    ensures { λ _. ⌜ SidePut (sheetOf (now (sheet .entry))) t (now (r .entry)) (now (store .entry)) (now (store .exit)) ⌝ }
 {
     if plan.kept[t] == 0 {
         return;
@@ -147,7 +146,7 @@ pub fn take_side(sheet: &[u64], plan: Plan, store: &mut [u64], t: usize, r: &[u6
     requires { ⌜ t < sheetOf (now sheet) .n ⌝ }
     requires { ⌜ length (now r) ≡ width (sheetOf (now sheet)) t ⌝ }
     requires { ⌜ Modelled (sheetOf (now sheet)) (now store) ⌝ }
-    ensures { λ _. ⌜ Sided (sheetOf (now (sheet .entry))) t (takeRows (sideRow (sheetOf (now (sheet .entry))) t (now (r .entry)))) (now (store .entry)) (now (store .exit)) ⌝ }
+    ensures { λ _. ⌜ SideTaken (sheetOf (now (sheet .entry))) t (now (r .entry)) (now (store .entry)) (now (store .exit)) ⌝ }
 {
     if plan.kept[t] == 0 {
         return;
@@ -173,7 +172,7 @@ pub fn replace_side(
     requires { ⌜ length (now new) ≡ width (sheetOf (now sheet)) t ⌝ }
     requires { ⌜ Modelled (sheetOf (now sheet)) (now store) ⌝ }
     requires { ⌜ Replaceable (sheetOf (now sheet)) (now store) t (now old) (now new) ⌝ }
-    ensures { λ _. ⌜ Sided (sheetOf (now (sheet .entry))) t (λ (rows : Rows). putRows (sideRow (sheetOf (now (sheet .entry))) t (now (new .entry))) (takeRows (sideRow (sheetOf (now (sheet .entry))) t (now (old .entry))) rows)) (now (store .entry)) (now (store .exit)) ⌝ }
+    ensures { λ _. ⌜ SideReplaced (sheetOf (now (sheet .entry))) t (now (old .entry)) (now (new .entry)) (now (store .entry)) (now (store .exit)) ⌝ }
 {
     if plan.kept[t] == 0 {
         return;

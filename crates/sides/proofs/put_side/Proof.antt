@@ -1,13 +1,22 @@
 -- `sides::put_side` meets its contract: the part is written with the row in it, or the table is unkept.
 -- Assumes nothing.
 use mathlib.Core.Path.{sym}
-use Rattle.store.proofs.Plans.{marked}
-use Rattle.sides.proofs.Parts.{side-narrow, side-long, side-kept}
+use Rattle.meaning.specs.Sheet.{sheetOf}
+use Rattle.store.proofs.Plans.{unmarked}
+use Rattle.sides.proofs.Parts.{Side, side-marked, side-narrow, side-long, side-kept}
 use Rattle.sides.proofs.Writes.{room-left, put-unkept, put-kept}
 use borrow.Author.Needs.{needs}
 use native.Mathlib.Omega.{arith}
 use Rattle.sides.proofs.put_side.Statement.{statement}
 use Rattle.sides.proofs.put_side.Tie as tie
+
+-- the table is kept, and its part lies where the plan says
+side : (c : tie.After-part-of)
+    → let start = c .before .before .before .before .before .before in
+    Side (sheetOf (start .args .sheet .now)) (start .args .t) (c .part-of .result)
+side c =
+    let start = c .before .before .before .before .before .before in
+    side-marked _ _ (start .pre .0) _ (start .pre .1 .0) (c .before .if1 .left) _ (c .part-of .ensures)
 
 mul-if1 : tie.Need-mul-if1
 mul-if1 c = search needs
@@ -16,28 +25,42 @@ element-copy-out-if1 : tie.Need-element-copy-out-if1
 element-copy-out-if1 c = search needs
 
 returns : tie.Need-returns
-returns c = let st = c .before .before .before .before .before in put-unkept _ _ (st .pre .0) _ (st .pre .1 .0) (c .if1 .taken) _ _
+returns c =
+    let start = c .before .before .before .before .before in
+    let no = unmarked _ _ (start .pre .0) _ (start .pre .1 .0) (c .if1 .taken) in
+    put-unkept _ _ (start .pre .1 .0) no _ _
 
 part-of-requires : tie.Need-part-of-requires
 part-of-requires c κs = search needs
 
 side-words-requires : tie.Need-side-words-requires
-side-words-requires c κs = let st = c .before .before .before .before .before .before in (st .pre .0, (st .pre .1 .0, (st .pre .1 .1 .0, marked _ _ (st .pre .0) _ (st .pre .1 .0) (c .before .if1 .left))))
+side-words-requires c κs =
+    let start = c .before .before .before .before .before .before in
+    (start .pre .0, (start .pre .1 .0, (start .pre .1 .1 .0, side c .is-kept)))
 
 array-share-prefix-row : tie.Need-array-share-prefix-row
-array-share-prefix-row c = let st = c .before .before .before .before .before .before .before .before in omega (arith, side-narrow _ _ (st .pre .0) _ (st .pre .1 .0) _ (c .before .before .part-of .ensures) (marked _ _ (st .pre .0) _ (st .pre .1 .0) (c .before .before .before .if1 .left)))
+array-share-prefix-row c = omega (arith, side-narrow (side (c .before .before)))
 
 slice-aggregate-put-row : tie.Need-slice-aggregate-put-row
-slice-aggregate-put-row c = let st = c .before .before .before .before .before .before .before .before .before in sym (side-long _ _ (st .pre .0) _ (st .pre .1 .0) _ (c .before .before .before .part-of .ensures) (marked _ _ (st .pre .0) _ (st .pre .1 .0) (c .before .before .before .before .if1 .left)) (c .before .before .side-words .ensures))
+slice-aggregate-put-row c = sym (side-long (side (c .before .before .before)) (c .before .before .side-words .ensures))
 
 put-row-requires : tie.Need-put-row-requires
-put-row-requires c κs = let st = c .before .before .before .before .before .before .before .before .before in let k = marked _ _ (st .pre .0) _ (st .pre .1 .0) (c .before .before .before .before .if1 .left) in (side-kept _ _ (st .pre .0) _ (st .pre .1 .0) _ (c .before .before .before .part-of .ensures) _ (st .pre .1 .1 .1 .0), (room-left _ _ (st .pre .0) _ (st .pre .1 .0) k _ (c .before .before .before .part-of .ensures) _ (st .pre .1 .1 .1 .0) (st .pre .1 .1 .1 .1), side-long _ _ (st .pre .0) _ (st .pre .1 .0) _ (c .before .before .before .part-of .ensures) k (c .before .before .side-words .ensures)))
+put-row-requires c κs =
+    let at-part = c .before .before .before in
+    let start = at-part .before .before .before .before .before .before in (
+      side-kept (side at-part) (start .pre .1 .1 .1 .0),
+      (room-left (side at-part) (start .pre .1 .1 .1 .0) (start .pre .1 .1 .1 .1), side-long (side at-part) (c .before .before .side-words .ensures)),
+    )
 
 same-length : tie.Need-same-length
 same-length c = search needs
 
 returns-2 : tie.Need-returns-2
-returns-2 c = let st = c .before .before .before .before .before .before .before .before .before .before .before .before in put-kept _ _ (st .pre .0) _ (st .pre .1 .0) (marked _ _ (st .pre .0) _ (st .pre .1 .0) (c .before .before .before .before .before .before .before .if1 .left)) _ (c .before .before .before .before .before .before .part-of .ensures) _ (st .pre .1 .1 .1 .0) _ _ (c .before .before .before .before .before .side-words .ensures) _ (c .before .before .put-row .ensures)
+returns-2 c =
+    let at-row = c .before .before .before .before .before in
+    let at-part = at-row .before in
+    let start = at-part .before .before .before .before .before .before in
+    put-kept (side at-part) (start .pre .1 .1 .1 .0) (at-row .side-words .ensures) _ (c .before .before .put-row .ensures)
 
 pub put-side-spec : {M : Type 1} → statement M
 put-side-spec =

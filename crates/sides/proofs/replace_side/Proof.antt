@@ -1,13 +1,22 @@
 -- `sides::replace_side` meets its contract: the new row stands over the old one, which is found, or the table is unkept.
 -- Assumes nothing.
 use mathlib.Core.Path.{sym}
-use Rattle.store.proofs.Plans.{marked}
-use Rattle.sides.proofs.Parts.{side-narrow, side-long, side-kept}
+use Rattle.meaning.specs.Sheet.{sheetOf}
+use Rattle.store.proofs.Plans.{marked, unmarked}
+use Rattle.sides.proofs.Parts.{Side, side-marked, side-narrow, side-long, side-kept}
 use Rattle.sides.proofs.Writes.{replace-unkept, replace-there, replace-below, replace-up, replace-kept}
 use borrow.Author.Needs.{needs}
 use native.Mathlib.Omega.{arith}
 use Rattle.sides.proofs.replace_side.Statement.{statement}
 use Rattle.sides.proofs.replace_side.Tie as tie
+
+-- the table is kept, and its part lies where the plan says
+side : (c : tie.After-part-of)
+    → let start = c .before .before .before .before .before .before .before .before .before .before .before .before in
+    Side (sheetOf (start .args .sheet .now)) (start .args .t) (c .part-of .result)
+side c =
+    let start = c .before .before .before .before .before .before .before .before .before .before .before .before in
+    side-marked _ _ (start .pre .0) _ (start .pre .1 .0) (c .before .before .before .before .before .before .if1 .left) _ (c .part-of .ensures)
 
 mul-if1 : tie.Need-mul-if1
 mul-if1 c = search needs
@@ -16,10 +25,16 @@ element-copy-out-if1 : tie.Need-element-copy-out-if1
 element-copy-out-if1 c = search needs
 
 returns : tie.Need-returns
-returns c = let st = c .before .before .before .before .before .before in replace-unkept _ _ (st .pre .0) _ (st .pre .1 .0) (c .if1 .taken) _ _ _
+returns c =
+    let start = c .before .before .before .before .before .before in
+    let no = unmarked _ _ (start .pre .0) _ (start .pre .1 .0) (c .if1 .taken) in
+    replace-unkept _ _ (start .pre .1 .0) no _ _ _
 
 find-side-requires : tie.Need-find-side-requires
-find-side-requires c κs = let st = c .before .before .before .before .before .before .before in (st .pre .0, (st .pre .1 .0, (st .pre .1 .1 .0, (marked _ _ (st .pre .0) _ (st .pre .1 .0) (c .before .if1 .left), st .pre .1 .1 .1 .1 .0))))
+find-side-requires c κs =
+    let start = c .before .before .before .before .before .before .before in
+    let k = marked _ _ (start .pre .0) _ (start .pre .1 .0) (c .before .if1 .left) in
+    (start .pre .0, (start .pre .1 .0, (start .pre .1 .1 .0, (k, start .pre .1 .1 .1 .1 .0))))
 
 enum-known-f : tie.Need-enum-known-f
 enum-known-f c = search needs
@@ -31,38 +46,51 @@ same-length : tie.Need-same-length
 same-length c = search needs
 
 returns-2 : tie.Need-returns-2
-returns-2 c = let st = c .before .before .before .before .before .before .before .before .before .before in absurd (replace-there _ _ _ _ _ (st .pre .1 .1 .1 .1 .1) (marked _ _ (st .pre .0) _ (st .pre .1 .0) (c .before .before .before .before .if1 .left)) _ (c .before .before .find-side .ensures) (c .enum-told .given .1))
+returns-2 c =
+    let looked = c .before .before in
+    let start = looked .before .before .before .before .before .before .before .before in
+    let k = marked _ _ (start .pre .0) _ (start .pre .1 .0) (looked .before .before .if1 .left) in
+    absurd (replace-there _ _ _ _ _ (start .pre .1 .1 .1 .1 .1) k _ (looked .find-side .ensures) (c .enum-told .given .1))
 
 part-of-requires : tie.Need-part-of-requires
 part-of-requires c κs = search needs
 
 side-words-requires : tie.Need-side-words-requires
-side-words-requires c κs = let st = c .before .before .before .before .before .before .before .before .before .before .before .before in (st .pre .0, (st .pre .1 .0, (search needs, marked _ _ (st .pre .0) _ (st .pre .1 .0) (c .before .before .before .before .before .before .if1 .left))))
+side-words-requires c κs =
+    let start = c .before .before .before .before .before .before .before .before .before .before .before .before in
+    (start .pre .0, (start .pre .1 .0, (search needs, side c .is-kept)))
 
 array-share-prefix-row : tie.Need-array-share-prefix-row
-array-share-prefix-row c = let st = c .before .before .before .before .before .before .before .before .before .before .before .before .before .before in omega (arith, side-narrow _ _ (st .pre .0) _ (st .pre .1 .0) _ (c .before .before .part-of .ensures) (marked _ _ (st .pre .0) _ (st .pre .1 .0) (c .before .before .before .before .before .before .before .before .if1 .left)))
+array-share-prefix-row c = omega (arith, side-narrow (side (c .before .before)))
 
 slice-aggregate-replace-row : tie.Need-slice-aggregate-replace-row
-slice-aggregate-replace-row c = let st = c .before .before .before .before .before .before .before .before .before .before .before .before .before .before .before in sym (side-long _ _ (st .pre .0) _ (st .pre .1 .0) _ (c .before .before .before .part-of .ensures) (marked _ _ (st .pre .0) _ (st .pre .1 .0) (c .before .before .before .before .before .before .before .before .before .if1 .left)) (c .before .before .side-words .ensures))
+slice-aggregate-replace-row c = sym (side-long (side (c .before .before .before)) (c .before .before .side-words .ensures))
 
 replace-row-requires : tie.Need-replace-row-requires
-replace-row-requires c κs = let st = c .before .before .before .before .before .before .before .before .before .before .before .before .before .before .before in let k = marked _ _ (st .pre .0) _ (st .pre .1 .0) (c .before .before .before .before .before .before .before .before .before .if1 .left) in (
-  side-kept _ _ (st .pre .0) _ (st .pre .1 .0) _ (c .before .before .before .part-of .ensures) _ (st .pre .1 .1 .1 .1 .0),
-  (
-    replace-below _ _ (st .pre .0) _ (st .pre .1 .0) k _ (c .before .before .before .part-of .ensures) _ (st .pre .1 .1 .1 .1 .0) _ _ (st .pre .1 .1 .1 .1 .1) _ (c .before .before .before .before .before .before .before .find-side .ensures) _ (c .before .before .before .before .before .f .given .1),
-    (
-      side-long _ _ (st .pre .0) _ (st .pre .1 .0) _ (c .before .before .before .part-of .ensures) k (c .before .before .side-words .ensures),
-      replace-up _ _ (st .pre .0) _ (st .pre .1 .0) k _ (c .before .before .before .part-of .ensures) _ (st .pre .1 .1 .1 .1 .0) _ _ (st .pre .1 .1 .1 .1 .1) _ (c .before .before .before .before .before .before .before .find-side .ensures) _ (c .before .before .before .before .before .f .given .1) _ (c .before .before .side-words .ensures),
-    ),
-  ),
-)
+replace-row-requires c κs =
+    let row = c .before .before .side-words .ensures in
+    let at-part = c .before .before .before in
+    let found = at-part .before .before .before .before .find-side .ensures in
+    let at = at-part .before .before .f .given .1 in
+    let pre = at-part .before .before .before .before .before .before .before .before .before .before .before .before .pre .1 .1 .1 .1 in (
+      side-kept (side at-part) (pre .0),
+      (
+        replace-below (side at-part) (pre .0) (pre .1) _ found _ at,
+        (side-long (side at-part) row, replace-up (side at-part) (pre .0) (pre .1) _ found _ at row),
+      ),
+    )
 
 same-length-2 : tie.Need-same-length-2
 same-length-2 c = search needs
 
 returns-3 : tie.Need-returns-3
-returns-3 c = let st = c .before .before .before .before .before .before .before .before .before .before .before .before .before .before .before .before .before .before in let k = marked _ _ (st .pre .0) _ (st .pre .1 .0) (c .before .before .before .before .before .before .before .before .before .before .before .before .if1 .left) in
-    replace-kept _ _ (st .pre .0) _ (st .pre .1 .0) k _ (c .before .before .before .before .before .before .part-of .ensures) _ (st .pre .1 .1 .1 .1 .0) _ _ (st .pre .1 .1 .1 .1 .1) _ (c .before .before .before .before .before .before .before .before .before .before .find-side .ensures) _ (c .before .before .before .before .before .before .before .before .f .given .1) _ (c .before .before .before .before .before .side-words .ensures) _ (c .before .before .replace-row .ensures)
+returns-3 c =
+    let row = c .before .before .before .before .before .side-words .ensures in
+    let at-part = c .before .before .before .before .before .before in
+    let found = at-part .before .before .before .before .find-side .ensures in
+    let at = at-part .before .before .f .given .1 in
+    let pre = at-part .before .before .before .before .before .before .before .before .before .before .before .before .pre .1 .1 .1 .1 in
+    replace-kept (side at-part) (pre .0) (pre .1) _ found _ at row _ (c .before .before .replace-row .ensures)
 
 pub replace-side-spec : {M : Type 1} → statement M
 replace-side-spec =

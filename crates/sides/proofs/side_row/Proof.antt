@@ -1,6 +1,6 @@
 -- `sides::side_row` meets its contract. The invariant: the first j shown columns are written.
 -- Assumes nothing.
-use Prim.Native.Nat.{_-_, _≤_}
+use Prim.Native.Nat.{_+_, _*_, _-_, _<_, _≤_}
 use mathlib.Core.Path.{_≡_, refl}
 use lib.ListN.{length, length-set}
 use Rattle.lists.specs.Loops.{filled}
@@ -18,27 +18,39 @@ Inv-loop sheet t r row₀ plan w j₀ row j = (j ≤ w) × (length row ≡ lengt
 abbrev μ-loop : tie.MeasureT-loop
 μ-loop sheet t r row₀ plan w j₀ row j = w - j
 
+-- the number of shown column j stands in the plan
+place : (c : tie.In-loop Inv-loop μ-loop) → 8 * c .before .before .args .t + c .before .loop .j < 64
+place c =
+    let start = c .before .before in
+    shown-place (start .pre .0) _ (start .pre .1 .0) _ _ (start .pre .1 .1 .1) (c .loop-test .taken)
+
 loop-holds : tie.Need-loop-holds Inv-loop μ-loop
 unfolding filled
 loop-holds c = (search needs, search needs, refl)
 
 mul-c : tie.Need-mul-c Inv-loop μ-loop
-mul-c c = omega (arith, shown-place _ _ (c .before .before .pre .0) _ (c .before .before .pre .1 .0) _ _ (c .before .before .pre .1 .1 .1) (c .loop-test .taken))
+mul-c c = omega (arith, place c)
 
 add-c : tie.Need-add-c Inv-loop μ-loop
-add-c c = omega (arith, shown-place _ _ (c .before .before .pre .0) _ (c .before .before .pre .1 .0) _ _ (c .before .before .pre .1 .1 .1) (c .loop-test .taken))
+add-c c = omega (arith, place c)
 
 mul-c-2 : tie.Need-mul-c-2 Inv-loop μ-loop
-mul-c-2 c = omega (arith, shown-place _ _ (c .before .before .pre .0) _ (c .before .before .pre .1 .0) _ _ (c .before .before .pre .1 .1 .1) (c .loop-test .taken))
+mul-c-2 c = omega (arith, place c)
 
 element-copy-out-c : tie.Need-element-copy-out-c Inv-loop μ-loop
-element-copy-out-c c = omega (arith, shown-place _ _ (c .before .before .pre .0) _ (c .before .before .pre .1 .0) _ _ (c .before .before .pre .1 .1 .1) (c .loop-test .taken))
+element-copy-out-c c = omega (arith, place c)
 
 mul-row : tie.Need-mul-row Inv-loop μ-loop
-mul-row c = omega (arith, shown-column _ _ (c .before .before .before .pre .0) _ (c .before .before .before .pre .1 .0) _ _ (c .before .before .before .pre .1 .1 .1) (c .before .loop-test .taken) _ _ (c .before .before .before .pre .1 .1 .0) refl)
+mul-row c =
+    let start = c .before .before .before in
+    let test = c .before .loop-test .taken in
+    omega (arith, shown-column (start .pre .0) _ (start .pre .1 .0) _ _ (start .pre .1 .1 .1) test _ _ (start .pre .1 .1 .0) refl)
 
 shared-slice-read-row : tie.Need-shared-slice-read-row Inv-loop μ-loop
-shared-slice-read-row c = omega (arith, shown-column _ _ (c .before .before .before .before .pre .0) _ (c .before .before .before .before .pre .1 .0) _ _ (c .before .before .before .before .pre .1 .1 .1) (c .before .before .loop-test .taken) _ _ (c .before .before .before .before .pre .1 .1 .0) refl)
+shared-slice-read-row c =
+    let start = c .before .before .before .before in
+    let test = c .before .before .loop-test .taken in
+    omega (arith, shown-column (start .pre .0) _ (start .pre .1 .0) _ _ (start .pre .1 .1 .1) test _ _ (start .pre .1 .1 .0) refl)
 
 mul-row-2 : tie.Need-mul-row-2 Inv-loop μ-loop
 mul-row-2 c = search needs
@@ -53,13 +65,19 @@ loop-less : tie.Need-loop-less Inv-loop μ-loop
 loop-less c = search needs
 
 loop-again : tie.Need-loop-again Inv-loop μ-loop
-loop-again c = (omega arith, simp length-set (c .before .before .before .loop .inv .1), filled-more _ _ _ _ _ (c .before .before .before .loop .inv .2) (shown-value _ _ (c .before .before .before .before .pre .0) _ (c .before .before .before .before .pre .1 .0) _ _ (c .before .before .before .before .pre .1 .1 .1) (c .before .before .loop-test .taken) _ _ _ refl refl))
+loop-again c =
+    let turn = c .before .before .before .loop in
+    let start = c .before .before .before .before in
+    let value = shown-value (start .pre .0) _ (start .pre .1 .0) _ _ (start .pre .1 .1 .1) (c .before .before .loop-test .taken) _ _ _ refl refl in
+    (omega arith, simp length-set (turn .inv .1), filled-more _ _ _ _ _ (turn .inv .2) value)
 
 same-length : tie.Need-same-length Inv-loop μ-loop
 same-length c = search needs
 
 returns : tie.Need-returns Inv-loop μ-loop
-returns c = shown-end _ _ _ _ _ _ _ (c .before .before .pre .1 .1 .1) refl (c .before .loop .inv .0) (c .loop-test .left) (c .before .loop .inv .2)
+returns c =
+    let end = c .before .loop in
+    shown-end _ _ _ _ _ _ _ (c .before .before .pre .1 .1 .1) refl (end .inv .0) (c .loop-test .left) (end .inv .2)
 
 pub side-row-spec : {M : Type 1} → statement M
 side-row-spec =

@@ -8,22 +8,38 @@ use Rattle.sides.proofs.side_words.Statement.{statement}
 use Rattle.sides.proofs.side_words.Tie as tie
 
 mul-w : tie.Need-mul-w
-mul-w c = let st = c .before .before in omega (arith, st .pre .0 .planned .tables-few, st .pre .0 .planned .tables-are)
+mul-w c =
+    let plan = c .before .before .pre .0 in
+    omega (arith, plan .planned .tables-few, plan .planned .tables-are)
 
 element-copy-out-w : tie.Need-element-copy-out-w
-element-copy-out-w c = let st = c .before .before in omega (arith, st .pre .0 .planned .tables-few, st .pre .0 .planned .tables-are)
+element-copy-out-w c =
+    let plan = c .before .before .pre .0 in
+    omega (arith, plan .planned .tables-few, plan .planned .tables-are)
 
 array-borrow-prefix-row : tie.Need-array-borrow-prefix-row
-array-borrow-prefix-row c = let st = c .before .before .before in omega (arith, shown-eight _ _ (st .pre .0) _ (st .pre .1 .0) (st .pre .1 .1 .1))
+array-borrow-prefix-row c =
+    let start = c .before .before .before in
+    omega (arith, shown-eight (start .pre .0) _ (start .pre .1 .0) (start .pre .1 .1 .1))
 
 slice-aggregate-side-row : tie.Need-slice-aggregate-side-row
-slice-aggregate-side-row c = let st = c .before .before .before .before in sym (shown-room _ _ (st .pre .0) _ (st .pre .1 .0) (st .pre .1 .1 .1) (replicate 8 0) (omega arith))
+slice-aggregate-side-row c =
+    let start = c .before .before .before .before in
+    sym (shown-room (start .pre .0) _ (start .pre .1 .0) (start .pre .1 .1 .1) (replicate 8 0) (omega arith))
 
 side-row-requires : tie.Need-side-row-requires
-side-row-requires c κs = let st = c .before .before .before .before in (st .pre .0, (st .pre .1 .0, (st .pre .1 .1 .0, shown-room _ _ (st .pre .0) _ (st .pre .1 .0) (st .pre .1 .1 .1) (replicate 8 0) (omega arith) ∙ shown-count _ _ (st .pre .0) _ (st .pre .1 .0) (st .pre .1 .1 .1))))
+side-row-requires c κs =
+    let start = c .before .before .before .before in
+    let long = shown-room (start .pre .0) _ (start .pre .1 .0) (start .pre .1 .1 .1) (replicate 8 0) (omega arith) in
+    let count = shown-count (start .pre .0) _ (start .pre .1 .0) (start .pre .1 .1 .1) in
+    (start .pre .0, (start .pre .1 .0, (start .pre .1 .1 .0, long ∙ count)))
 
 returns : tie.Need-returns
-returns c = let st = c .before .before .before .before .before .before in record { head = shown-back _ _ (st .pre .0) _ (st .pre .1 .0) (st .pre .1 .1 .1) _ _ _ (c .before .side-row .kept .1 .1 .1 .1 .0 ∙ shown-room _ _ (st .pre .0) _ (st .pre .1 .0) (st .pre .1 .1 .1) (replicate 8 0) (omega arith)) (c .before .side-row .ensures) }
+returns c =
+    let call = c .before .side-row in
+    let start = c .before .before .before .before .before .before in
+    let long = call .kept .1 .1 .1 .1 .0 ∙ shown-room (start .pre .0) _ (start .pre .1 .0) (start .pre .1 .1 .1) (replicate 8 0) (omega arith) in
+    record { head = shown-back (start .pre .0) _ (start .pre .1 .0) (start .pre .1 .1 .1) _ _ _ long (call .ensures) }
 
 pub side-words-spec : {M : Type 1} → statement M
 side-words-spec =

@@ -1,13 +1,22 @@
 -- `sides::take_side` meets its contract: the part is written without the row, or the table is unkept.
 -- Assumes nothing.
 use mathlib.Core.Path.{sym}
-use Rattle.store.proofs.Plans.{marked}
-use Rattle.sides.proofs.Parts.{side-narrow, side-long, side-kept}
+use Rattle.meaning.specs.Sheet.{sheetOf}
+use Rattle.store.proofs.Plans.{unmarked}
+use Rattle.sides.proofs.Parts.{Side, side-marked, side-narrow, side-long, side-kept}
 use Rattle.sides.proofs.Writes.{take-unkept, take-kept}
 use borrow.Author.Needs.{needs}
 use native.Mathlib.Omega.{arith}
 use Rattle.sides.proofs.take_side.Statement.{statement}
 use Rattle.sides.proofs.take_side.Tie as tie
+
+-- the table is kept, and its part lies where the plan says
+side : (c : tie.After-part-of)
+    → let start = c .before .before .before .before .before .before in
+    Side (sheetOf (start .args .sheet .now)) (start .args .t) (c .part-of .result)
+side c =
+    let start = c .before .before .before .before .before .before in
+    side-marked _ _ (start .pre .0) _ (start .pre .1 .0) (c .before .if1 .left) _ (c .part-of .ensures)
 
 mul-if1 : tie.Need-mul-if1
 mul-if1 c = search needs
@@ -16,28 +25,40 @@ element-copy-out-if1 : tie.Need-element-copy-out-if1
 element-copy-out-if1 c = search needs
 
 returns : tie.Need-returns
-returns c = let st = c .before .before .before .before .before in take-unkept _ _ (st .pre .0) _ (st .pre .1 .0) (c .if1 .taken) _ _
+returns c =
+    let start = c .before .before .before .before .before in
+    let no = unmarked _ _ (start .pre .0) _ (start .pre .1 .0) (c .if1 .taken) in
+    take-unkept _ _ (start .pre .1 .0) no _ _
 
 part-of-requires : tie.Need-part-of-requires
 part-of-requires c κs = search needs
 
 side-words-requires : tie.Need-side-words-requires
-side-words-requires c κs = let st = c .before .before .before .before .before .before in (st .pre .0, (st .pre .1 .0, (st .pre .1 .1 .0, marked _ _ (st .pre .0) _ (st .pre .1 .0) (c .before .if1 .left))))
+side-words-requires c κs =
+    let start = c .before .before .before .before .before .before in
+    (start .pre .0, (start .pre .1 .0, (start .pre .1 .1 .0, side c .is-kept)))
 
 array-share-prefix-row : tie.Need-array-share-prefix-row
-array-share-prefix-row c = let st = c .before .before .before .before .before .before .before .before in omega (arith, side-narrow _ _ (st .pre .0) _ (st .pre .1 .0) _ (c .before .before .part-of .ensures) (marked _ _ (st .pre .0) _ (st .pre .1 .0) (c .before .before .before .if1 .left)))
+array-share-prefix-row c = omega (arith, side-narrow (side (c .before .before)))
 
 slice-aggregate-take-row : tie.Need-slice-aggregate-take-row
-slice-aggregate-take-row c = let st = c .before .before .before .before .before .before .before .before .before in sym (side-long _ _ (st .pre .0) _ (st .pre .1 .0) _ (c .before .before .before .part-of .ensures) (marked _ _ (st .pre .0) _ (st .pre .1 .0) (c .before .before .before .before .if1 .left)) (c .before .before .side-words .ensures))
+slice-aggregate-take-row c = sym (side-long (side (c .before .before .before)) (c .before .before .side-words .ensures))
 
 take-row-requires : tie.Need-take-row-requires
-take-row-requires c κs = let st = c .before .before .before .before .before .before .before .before .before in let k = marked _ _ (st .pre .0) _ (st .pre .1 .0) (c .before .before .before .before .if1 .left) in (side-kept _ _ (st .pre .0) _ (st .pre .1 .0) _ (c .before .before .before .part-of .ensures) _ (st .pre .1 .1 .1), side-long _ _ (st .pre .0) _ (st .pre .1 .0) _ (c .before .before .before .part-of .ensures) k (c .before .before .side-words .ensures))
+take-row-requires c κs =
+    let at-part = c .before .before .before in
+    let start = at-part .before .before .before .before .before .before in
+    (side-kept (side at-part) (start .pre .1 .1 .1), side-long (side at-part) (c .before .before .side-words .ensures))
 
 same-length : tie.Need-same-length
 same-length c = search needs
 
 returns-2 : tie.Need-returns-2
-returns-2 c = let st = c .before .before .before .before .before .before .before .before .before .before .before .before in take-kept _ _ (st .pre .0) _ (st .pre .1 .0) (marked _ _ (st .pre .0) _ (st .pre .1 .0) (c .before .before .before .before .before .before .before .if1 .left)) _ (c .before .before .before .before .before .before .part-of .ensures) _ (st .pre .1 .1 .1) _ _ (c .before .before .before .before .before .side-words .ensures) _ (c .before .before .take-row .ensures)
+returns-2 c =
+    let at-row = c .before .before .before .before .before in
+    let at-part = at-row .before in
+    let start = at-part .before .before .before .before .before .before in
+    take-kept (side at-part) (start .pre .1 .1 .1) (at-row .side-words .ensures) _ (c .before .before .take-row .ensures)
 
 pub take-side-spec : {M : Type 1} → statement M
 take-side-spec =
