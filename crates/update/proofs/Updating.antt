@@ -30,7 +30,7 @@ use Rattle.store.specs.declared.Answer.the-variants.{Done, Refused}
 use Rattle.store.specs.Parts.{rowsIn, Lies, Wrote}
 use Rattle.store.proofs.Answers.{says-refused}
 use Rattle.store.proofs.Lying.{rows-is}
-use Rattle.sides.specs.Sides.{Replaceable, Sided}
+use Rattle.side_table.specs.Sides.{Replaceable, Sided}
 use Rattle.routes.specs.Ready.{Ready}
 use Rattle.written.proofs.Answers.{says-nothing, says-all}
 use Rattle.written.proofs.Halves.{ready-good, ready-table, half-side, both-words}

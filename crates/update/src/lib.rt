@@ -86,7 +86,7 @@ pub fn update(
     ensures { λ a. ⌜ Updates (now (sheet .entry)) (now (store .entry)) table (now (old .entry)) (now (new .entry)) a (now (store .exit)) ⌝ }
 {
     let qualified = ways::is_qualified(sheet, route, store, table, old);
-    if !sides::old_row(sheet, plan, store, table, old, qualified) {
+    if !side_table::old_row(sheet, plan, store, table, old, qualified) {
         return Answer::Refused(8);
     }
     if !qualified {
@@ -99,6 +99,6 @@ pub fn update(
         return Answer::Refused(8);
     };
     replace_rows(sheet, store, list, &marks, k, table, new);
-    sides::replace_side(sheet, plan, store, table, old, new);
+    side_table::replace_side(sheet, plan, store, table, old, new);
     Answer::Done(k as u64, k as u64)
 }

@@ -1,14 +1,14 @@
--- `sides::replace_side` meets its contract: the new row stands over the old one, which is found, or the table is unkept.
+-- `side_table::replace_side` meets its contract: the new row stands over the old one, which is found, or the table is unkept.
 -- Assumes nothing.
 use mathlib.Core.Path.{sym}
 use Rattle.meaning.specs.Sheet.{sheetOf}
 use Rattle.store.proofs.Plans.{marked, unmarked}
-use Rattle.sides.proofs.Parts.{Side, side-marked, side-narrow, side-long, side-kept}
-use Rattle.sides.proofs.Writes.{replace-unkept, replace-there, replace-below, replace-up, replace-kept}
+use Rattle.side_table.proofs.Parts.{Side, side-marked, side-narrow, side-long, side-kept}
+use Rattle.side_table.proofs.Writes.{replace-unkept, replace-there, replace-below, replace-up, replace-kept}
 use borrow.Author.Needs.{needs}
 use native.Mathlib.Omega.{arith}
-use Rattle.sides.proofs.replace_side.Statement.{statement}
-use Rattle.sides.proofs.replace_side.Tie as tie
+use Rattle.side_table.proofs.replace_side.Statement.{statement}
+use Rattle.side_table.proofs.replace_side.Tie as tie
 
 -- the table is kept, and its part lies where the plan says
 side : (c : tie.After-part-of)

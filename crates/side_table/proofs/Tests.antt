@@ -22,7 +22,7 @@ use Rattle.laws.proofs.Sheets.{Good}
 use Rattle.laws.proofs.Stores.{sound-get, model-many, model-side, sound-proper}
 use Rattle.places.proofs.Parts.{slot-table}
 use Rattle.places.proofs.Stands.{sound-stands}
-use Rattle.sides.specs.Sides.{foundSide, Modelled, hasRoom}
+use Rattle.side_table.specs.Sides.{foundSide, Modelled, hasRoom}
 
 -- table t of a good sheet is asked about, in a sound store
 pub record Asked (s : Sheet) (t : ℕ) (ws : Words) : Type 0 where

@@ -29,9 +29,9 @@ use Rattle.effects.proofs.Rows.{side-row-one}
 use Rattle.store.specs.declared.Part.{Part}
 use Rattle.store.specs.Parts.{countIn, rowsIn, Wrote}
 use Rattle.store.proofs.Lying.{count-is}
-use Rattle.sides.specs.Sides.{Begins, foundSide, Modelled, hasRoom, Replaceable, Sided, SidePut, SideTaken, SideReplaced}
-use Rattle.sides.proofs.Parts.{Side, side-kept, side-rows, side-wrote, side-head}
-use Rattle.sides.proofs.Tests.{room-free}
+use Rattle.side_table.specs.Sides.{Begins, foundSide, Modelled, hasRoom, Replaceable, Sided, SidePut, SideTaken, SideReplaced}
+use Rattle.side_table.proofs.Parts.{Side, side-kept, side-rows, side-wrote, side-head}
+use Rattle.side_table.proofs.Tests.{room-free}
 
 -- a table whose rows stay
 with-itself : (m : Model) (n t : ℕ) → length (m .sides) ≡ n → t < n → withPart m t (partRows m t) ≡ m

@@ -1,4 +1,4 @@
--- `sides::new_key` meets its contract, for an unkept table and for a kept one.
+-- `side_table::new_key` meets its contract, for an unkept table and for a kept one.
 -- Assumes nothing.
 use mathlib.Core.Path.{_≡_, ap, _∙_}
 use Rattle.rows.specs.Rows.{key}
@@ -6,12 +6,12 @@ use Rattle.rows.specs.Ranks.{foundKey}
 use Rattle.meaning.specs.Sheet.{sheetOf}
 use Rattle.meaning.specs.Store.{rowsAt}
 use Rattle.store.proofs.Plans.{unmarked}
-use Rattle.sides.proofs.Parts.{Side, side-marked, side-some, side-kept, side-rows}
-use Rattle.sides.proofs.Tests.{Asked, sound-modelled, new-unkept, new-missing, new-at}
+use Rattle.side_table.proofs.Parts.{Side, side-marked, side-some, side-kept, side-rows}
+use Rattle.side_table.proofs.Tests.{Asked, sound-modelled, new-unkept, new-missing, new-at}
 use borrow.Author.Needs.{needs}
 use native.Mathlib.Omega.{arith}
-use Rattle.sides.proofs.new_key.Statement.{statement}
-use Rattle.sides.proofs.new_key.Tie as tie
+use Rattle.side_table.proofs.new_key.Statement.{statement}
+use Rattle.side_table.proofs.new_key.Tie as tie
 
 asked : (start : tie.Start) → Asked (sheetOf (start .args .sheet .now)) (start .args .t) (start .args .store .now)
 asked start = record { good = start .pre .0 .good; there = start .pre .1 .0; ok = start .pre .1 .1 .1 }

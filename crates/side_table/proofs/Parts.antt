@@ -20,7 +20,7 @@ use Rattle.store.specs.Parts.{rowsIn, Lies, Kept, Wrote}
 use Rattle.store.specs.Plans.{GoodPlan, partOf}
 use Rattle.store.proofs.Lying.{rows-is, lies-kept, wrote-stands, lies-rows}
 use Rattle.store.proofs.Plans.{marked, part-lies}
-use Rattle.sides.specs.Sides.{Begins, Modelled, Sided}
+use Rattle.side_table.specs.Sides.{Begins, Modelled, Sided}
 
 -- q is the part of table t, a kept one of a good sheet
 pub record Side (s : Sheet) (t : ℕ) (q : Part) : Type 0 where

@@ -1,11 +1,11 @@
--- `sides::side_words` meets its contract: the head of the row comes back with the shown columns.
+-- `side_table::side_words` meets its contract: the head of the row comes back with the shown columns.
 -- Assumes nothing.
 use mathlib.Core.Path.{sym, _∙_}
 use lib.ListN.{replicate}
-use Rattle.sides.proofs.Shown.{shown-count, shown-eight, shown-room, shown-back}
+use Rattle.side_table.proofs.Shown.{shown-count, shown-eight, shown-room, shown-back}
 use native.Mathlib.Omega.{arith}
-use Rattle.sides.proofs.side_words.Statement.{statement}
-use Rattle.sides.proofs.side_words.Tie as tie
+use Rattle.side_table.proofs.side_words.Statement.{statement}
+use Rattle.side_table.proofs.side_words.Tie as tie
 
 mul-w : tie.Need-mul-w
 mul-w c =

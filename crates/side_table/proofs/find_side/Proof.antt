@@ -1,13 +1,13 @@
--- `sides::find_side` meets its contract: the part's rows are the table's.
+-- `side_table::find_side` meets its contract: the part's rows are the table's.
 -- Assumes nothing.
 use mathlib.Core.Path.{sym, ap₂, _∙_}
 use Rattle.rows.specs.Ranks.{foundRow}
 use Rattle.meaning.specs.Sheet.{sheetOf}
-use Rattle.sides.proofs.Parts.{Side, side-planned, side-narrow, side-long, side-head, side-kept, side-rows}
+use Rattle.side_table.proofs.Parts.{Side, side-planned, side-narrow, side-long, side-head, side-kept, side-rows}
 use borrow.Author.Needs.{needs}
 use native.Mathlib.Omega.{arith}
-use Rattle.sides.proofs.find_side.Statement.{statement}
-use Rattle.sides.proofs.find_side.Tie as tie
+use Rattle.side_table.proofs.find_side.Statement.{statement}
+use Rattle.side_table.proofs.find_side.Tie as tie
 
 -- the part lies where the plan says
 side : (c : tie.After-part-of)

@@ -1,12 +1,12 @@
--- `sides::old_row` meets its contract: for an unkept table, an unqualified row and a qualified one.
+-- `side_table::old_row` meets its contract: for an unkept table, an unqualified row and a qualified one.
 -- Assumes nothing.
 use borrow.Author.Tests.{not-true, not-false}
 use Rattle.meaning.specs.Sheet.{sheetOf}
 use Rattle.store.proofs.Plans.{marked, unmarked}
-use Rattle.sides.proofs.Tests.{Asked, sound-modelled, old-unkept, old-unqualified, old-missing, old-at}
+use Rattle.side_table.proofs.Tests.{Asked, sound-modelled, old-unkept, old-unqualified, old-missing, old-at}
 use borrow.Author.Needs.{needs}
-use Rattle.sides.proofs.old_row.Statement.{statement}
-use Rattle.sides.proofs.old_row.Tie as tie
+use Rattle.side_table.proofs.old_row.Statement.{statement}
+use Rattle.side_table.proofs.old_row.Tie as tie
 
 asked : (start : tie.Start) → Asked (sheetOf (start .args .sheet .now)) (start .args .t) (start .args .store .now)
 asked start = record { good = start .pre .0 .good; there = start .pre .1 .0; ok = start .pre .1 .1 .1 .0 }

@@ -1,13 +1,13 @@
--- `sides::has_room` meets its contract, for an unkept table and for a kept one.
+-- `side_table::has_room` meets its contract, for an unkept table and for a kept one.
 -- Assumes nothing.
 use Rattle.meaning.specs.Sheet.{sheetOf}
 use Rattle.store.proofs.Plans.{marked, unmarked}
-use Rattle.sides.proofs.Tests.{Asked, sound-modelled, room-unkept, room-is}
+use Rattle.side_table.proofs.Tests.{Asked, sound-modelled, room-unkept, room-is}
 use Rattle.places.proofs.Stands.{stands-nine}
 use borrow.Author.Needs.{needs}
 use native.Mathlib.Omega.{arith}
-use Rattle.sides.proofs.has_room.Statement.{statement}
-use Rattle.sides.proofs.has_room.Tie as tie
+use Rattle.side_table.proofs.has_room.Statement.{statement}
+use Rattle.side_table.proofs.has_room.Tie as tie
 
 asked : (start : tie.Start) → Asked (sheetOf (start .args .sheet .now)) (start .args .t) (start .args .store .now)
 asked start = record { good = start .pre .0 .good; there = start .pre .1 .0; ok = start .pre .1 .1 }

@@ -1,4 +1,4 @@
--- `sides::side_row` meets its contract. The invariant: the first j shown columns are written.
+-- `side_table::side_row` meets its contract. The invariant: the first j shown columns are written.
 -- Assumes nothing.
 use Prim.Native.Nat.{_+_, _*_, _-_, _<_, _≤_}
 use mathlib.Core.Path.{_≡_, refl}
@@ -6,11 +6,11 @@ use lib.ListN.{length, length-set}
 use Rattle.lists.specs.Loops.{filled}
 use Rattle.lists.proofs.Loops.{filled-more}
 use Rattle.meaning.specs.Sheet.{sheetOf}
-use Rattle.sides.proofs.Shown.{shownValue, shown-place, shown-column, shown-value, shown-end}
+use Rattle.side_table.proofs.Shown.{shownValue, shown-place, shown-column, shown-value, shown-end}
 use borrow.Author.Needs.{needs}
 use native.Mathlib.Omega.{arith}
-use Rattle.sides.proofs.side_row.Statement.{statement}
-use Rattle.sides.proofs.side_row.Tie as tie
+use Rattle.side_table.proofs.side_row.Statement.{statement}
+use Rattle.side_table.proofs.side_row.Tie as tie
 
 abbrev Inv-loop : tie.InvT-loop
 Inv-loop sheet t r row₀ plan w j₀ row j = (j ≤ w) × (length row ≡ length row₀) × (row ≡ filled (shownValue (sheetOf sheet) t r) j row₀)

@@ -11,7 +11,7 @@ ghost use Rattle.meaning.specs.Plan.{kept, shown};
 ghost use Rattle.meaning.specs.Store.{modelOf, sound};
 ghost use Rattle.meaning.specs.Change.{qualifies, newKey, oldRow};
 ghost use Rattle.store.specs.Plans.{GoodPlan};
-ghost use Rattle.sides.specs.Sides.{Begins, foundSide, Modelled, hasRoom, Replaceable, SidePut, SideTaken, SideReplaced};
+ghost use Rattle.side_table.specs.Sides.{Begins, foundSide, Modelled, hasRoom, Replaceable, SidePut, SideTaken, SideReplaced};
 
 // r's shown columns go into the lent row.
 pub fn side_row(sheet: &[u64], plan: Plan, t: usize, r: &[u64], row: &mut [u64])
