@@ -27,7 +27,7 @@ use Rattle.store.specs.declared.Answer.the-variants.{Done, Refused}
 use Rattle.store.specs.Parts.{rowsIn, countIn, Lies, Wrote}
 use Rattle.store.proofs.Answers.{says-refused}
 use Rattle.store.proofs.Lying.{count-is, rows-is}
-use Rattle.listpart.proofs.Lists.{list-room}
+use Rattle.list_part.proofs.Lists.{list-room}
 use Rattle.routes.specs.Ready.{Ready}
 use Rattle.added.specs.Adding.{Adding}
 use Rattle.side_table.specs.Sides.{hasRoom, Sided}

@@ -12,7 +12,7 @@ ghost use Rattle.meaning.specs.Sheet.{sheetOf, listedCount};
 ghost use Rattle.sheet.specs.Rules.{Rules};
 ghost use Rattle.walks.specs.Marks.{altered, isMarked};
 ghost use Rattle.walks.proofs.Updates.{Tied};
-ghost use Rattle.columns.specs.Gives.{gives, Fits};
+ghost use Rattle.list_part.specs.Gives.{gives, Fits};
 ghost use Rattle.ways.specs.Grounds.{Lent};
 ghost use Rattle.store.specs.Parts.{countIn, rowsIn, Lies, Kept, Wrote};
 ghost use Rattle.routes.specs.Ready.{Ready};
@@ -65,8 +65,8 @@ fn replace_rows(
 {
     let slot = list.slot;
     let count = store[slot] as usize;
-    listpart::give_rows(sheet, store, list, marks, table as u64, row);
-    listpart::settle_rows(store, list, count, k);
+    list_part::give_rows(sheet, store, list, marks, table as u64, row);
+    list_part::settle_rows(store, list, count, k);
 }
 
 // Old becomes new in its table, if it is qualified: the side row is replaced, and the list rows of the ways through it, or found by its key.

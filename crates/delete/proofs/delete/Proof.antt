@@ -1,4 +1,4 @@
-use Rattle.listpart.proofs.Lists.{list-kept}
+use Rattle.list_part.proofs.Lists.{list-kept}
 use Rattle.taken.proofs.Lists.{marks-enough}
 use mathlib.Core.Path.{refl}
 use Rattle.written.proofs.Halves.{ready-good, ready-ground, ready-list, ready-table, ready-tables, half-modelled}

@@ -1,4 +1,4 @@
-use Rattle.listpart.proofs.Lists.{list-room}
+use Rattle.list_part.proofs.Lists.{list-room}
 use Rattle.written.proofs.Halves.{ready-good, ready-ground, ready-list, ready-table, half-modelled}
 use Rattle.added.proofs.Putting.{list-within}
 use Rattle.insert.proofs.Inserting.{inserts-8, inserts-none, inserts-9-side, inserts-9-list, adding, half-room, inserts-done}

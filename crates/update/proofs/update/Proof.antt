@@ -1,6 +1,6 @@
 use mathlib.Core.Path.{refl}
 use Rattle.written.proofs.Halves.{ready-good, ready-ground, ready-list, ready-table, ready-tables, half-modelled}
-use Rattle.listpart.proofs.Lists.{list-columns, list-kept, list-room}
+use Rattle.list_part.proofs.Lists.{list-columns, list-kept, list-room}
 use Rattle.taken.proofs.Lists.{marks-enough}
 use Rattle.taken.proofs.Finding.{fits-lent}
 use Rattle.update.proofs.Updating.{updates-8-side, updates-none, updates-8-list, replaceable, updates-done}

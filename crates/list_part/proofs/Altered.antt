@@ -14,15 +14,16 @@ use Rattle.rows.proofs.Regions.{zeros-are}
 use Rattle.meaning.specs.Sheet.{listedCount}
 use Rattle.walks.specs.Marks.{altered, isMarked}
 use Rattle.walks.proofs.Marks.{length-altered}
-use Rattle.columns.specs.Gives.{gives, given}
-use Rattle.columns.proofs.Words.{gives-length}
-use Rattle.columns.proofs.Given.{wide-altered}
+use Rattle.list_part.specs.Gives.{gives, given}
+use Rattle.list_part.proofs.Words.{gives-length}
+use Rattle.list_part.proofs.Given.{wide-altered}
 use Rattle.store.specs.declared.Part.{Part}
 use Rattle.store.specs.Parts.{sizeOf, stopOf, wordsIn, countIn, rowsIn, Kept}
-use Rattle.listpart.specs.Loose.{Behind}
-use Rattle.listpart.proofs.Rewrites.{part-long}
+use Rattle.store.proofs.Parts.{part-long}
+use Rattle.list_part.specs.Loose.{rowsGiven, Behind}
 
-module _ (sheet : Words) (t : ℕ) (r : Row) (marks : Words) (p : Part) (old : Words) (k : Kept p old) (few : countIn p old ≤ p .room) (w : p .columns ≡ listedCount sheet) where
+module _ (sheet : Words) (t : ℕ) (r : Row) (marks : Words) (p : Part) (old : Words) (k : Kept p old)
+    (few : countIn p old ≤ p .room) (w : p .columns ≡ listedCount sheet) where
   pub alteredRows : Rows
   alteredRows = altered (isMarked marks) (gives sheet t r) (rowsIn p old)
 
@@ -39,8 +40,10 @@ module _ (sheet : Words) (t : ℕ) (r : Row) (marks : Words) (p : Part) (old : W
   given-laid : given sheet t r marks (countIn p old) (wordsIn p old) ≡ laid (sizeOf p) alteredRows
   unfolding given laid alteredRows rowsIn
   given-laid =
-      ap (λ (v : ℕ). flat (altered (isMarked marks) (gives sheet t r) (cut v (countIn p old) (wordsIn p old))) ++ drop (countIn p old * v) (wordsIn p old)) (sym w)
-      ∙ ap (λ (l : Words). flat alteredRows ++ l) (zeros-are (drop (countIn p old * p .columns) (wordsIn p old)) (k .region .zeros) ∙ ap (λ (j : ℕ). replicate j 0) size)
+      let n = countIn p old in
+      let words = wordsIn p old in
+      ap (λ (v : ℕ). flat (altered (isMarked marks) (gives sheet t r) (cut v n words)) ++ drop (n * v) words) (sym w)
+      ∙ ap (λ (l : Words). flat alteredRows ++ l) (zeros-are (drop (n * p .columns) words) (k .region .zeros) ∙ ap (λ (j : ℕ). replicate j 0) size)
     where
       size : length (drop (countIn p old * p .columns) (wordsIn p old)) ≡ sizeOf p - length (flat alteredRows)
       size =
@@ -52,7 +55,7 @@ module _ (sheet : Words) (t : ℕ) (r : Row) (marks : Words) (p : Part) (old : W
             ap (λ (j : ℕ). j * p .columns) many,
           )
 
-  pub behind-given : (exit : Words) → exit ≡ splice old (p .start) (stopOf p) (given sheet t r marks (countIn p old) (wordsIn p old))
+  pub behind-given : (exit : Words) → exit ≡ rowsGiven sheet t r marks p old
       → Behind p old (altered (isMarked marks) (gives sheet t r) (rowsIn p old)) exit
   unfolding alteredRows
   behind-given exit e = record { words = e ∙ ap (splice old (p .start) (stopOf p)) given-laid; wide = wide; fits = omega (arith, many) }

@@ -11,18 +11,19 @@ use lib.Seq.{drop-drop}
 use borrow.Rule.Slice.PartMut.{putMid}
 use Rattle.lists.specs.Lists.{Words, all}
 use Rattle.lists.specs.Parts.{part, splice}
-use Rattle.lists.proofs.Parts.{put-back, length-part, drop-splice}
+use Rattle.lists.proofs.Parts.{drop-splice}
 use Rattle.rows.specs.Rows.{Row, Rows, cut, rising, sorted}
 use Rattle.rows.specs.Words.{written}
-use Rattle.rows.specs.Regions.{laid, Holds}
+use Rattle.rows.specs.Regions.{laid}
 use Rattle.rows.proofs.Cut.{row-fits, Wide, wide-first, wide-rest, wide-cons, cut-length, wide-cut}
-use Rattle.rows.proofs.Regions.{region-words, holds, holds-count}
+use Rattle.rows.proofs.Regions.{region-words, holds}
 use Rattle.rows.proofs.Sorted.{rising-sorted}
 use Rattle.places.proofs.Laid.{laid-long, laid-more, laid-zeros, laid-cut}
 use Rattle.places.proofs.Splices.{length-splice, part-splice, take-splice}
 use Rattle.store.specs.declared.Part.{Part}
+use Rattle.store.proofs.Parts.{part-long, wrote}
 use Rattle.store.specs.Parts.{sizeOf, stopOf, wordsIn, countIn, rowsIn, Within, Kept, withRows, Wrote}
-use Rattle.listpart.specs.Loose.{Loose, looseRows, Behind}
+use Rattle.list_part.specs.Loose.{rowPut, Loose, looseRows, Behind}
 
 -- a part put in twice, and one put in where it was
 spliced-as : (s : Words) (a b : ℕ) (y : Words) → splice s a b y ≡ take a s ++ (y ++ drop b s)
@@ -51,10 +52,6 @@ wide-append w (q ∷ rows) r h e = wide-cons w q (rows ++ (r ∷ [])) (wide-firs
 
 -- The part's words written anew
 module _ (p : Part) (old : Words) (win : Within p old) where
-  pub part-long : length (wordsIn p old) ≡ sizeOf p
-  unfolding wordsIn
-  part-long = length-part old (p .start) (stopOf p) (win .ends) ∙ omega arith
-
   module _ (x : Words) (long : length x ≡ sizeOf p) where
     spliced : Words
     spliced = splice old (p .start) (stopOf p) x
@@ -68,7 +65,8 @@ module _ (p : Part) (old : Words) (win : Within p old) where
 
     pub within-anew : Within p (splice old (p .start) (stopOf p) x)
     within-anew =
-        record { counted = win .counted; behind = win .behind; ends = omega (arith, win .ends, length-splice old (p .start) (stopOf p) x (omega arith) (win .ends) size-is) }
+        let long-as = length-splice old (p .start) (stopOf p) x (omega arith) (win .ends) size-is in
+        record { counted = win .counted; behind = win .behind; ends = omega (arith, win .ends, long-as) }
 
     pub anew-twice : (y : Words) → splice (splice old (p .start) (stopOf p) x) (p .start) (stopOf p) y ≡ splice old (p .start) (stopOf p) y
     anew-twice y = splice-twice old (p .start) (stopOf p) x y (omega arith) (win .ends) size-is
@@ -79,24 +77,11 @@ module _ (p : Part) (old : Words) (win : Within p old) where
     wrote-over rows exit w =
         record { words = w .words ∙ ap (λ (y : Words). set y (p .slot) (length rows)) (anew-twice (laid (sizeOf p) rows)); long = w .long; held = w .held }
 
-  -- and its count set
-  pub wrote-anew : (rows : Rows) (n : ℕ) (x : Words) → Holds (p .columns) n rows x → length x ≡ sizeOf p
-      → Wrote p rows old (set (splice old (p .start) (stopOf p) x) (p .slot) n)
-  unfolding withRows
-  wrote-anew rows n x h long =
-      let is : x ≡ laid (sizeOf p) rows = h .words ∙ ap (λ (j : ℕ). laid j rows) long in
-      let many : n ≡ length rows = sym (holds-count (p .columns) n rows x h) in
-      record {
-        words = ap₂ (λ (y : Words) (j : ℕ). set (splice old (p .start) (stopOf p) y) (p .slot) j) is many;
-        long = ap length (sym is) ∙ long;
-        held = rw (is, many) at h;
-      }
-
 -- A part whose rows come one after the other, in any order
 pub behind-start : (p : Part) (old : Words) → Kept p old → countIn p old ≤ p .room → Behind p old (rowsIn p old) old
 unfolding rowsIn
 behind-start p old k h =
-    let is = region-words (p .columns) (countIn p old) (wordsIn p old) (k .region) ∙ ap (λ (n : ℕ). laid n (cut (p .columns) (countIn p old) (wordsIn p old))) (part-long p old (k .within)) in
+    let is = region-words (p .columns) (countIn p old) (wordsIn p old) (k .region) ∙ ap (λ (n : ℕ). laid n (rowsIn p old)) (part-long p old (k .within)) in
     record {
       words = sym (ap (splice old (p .start) (stopOf p)) (sym is) ∙ part-same p old);
       wide = wide-cut (p .columns) (countIn p old) (wordsIn p old) (k .region .fits);
@@ -141,7 +126,7 @@ module _ (p : Part) (old : Words) (win : Within p old) (rows : Rows) (ws : Words
     at-end : written (laid (sizeOf p) rows) (length rows * p .columns) r (p .columns) ≡ laid (sizeOf p) (rows ++ (r ∷ []))
     at-end = laid-more (p .columns) (sizeOf p) rows (be .wide) r wide (row-fits (p .columns) (p .room) (length rows) (sizeOf p) l (omega arith))
 
-    pub behind-on : (exit : Words) → exit ≡ splice ws (p .start) (stopOf p) (written (wordsIn p ws) (length rows * p .columns) r (p .columns)) → Behind p old (rows ++ (r ∷ [])) exit
+    pub behind-on : (exit : Words) → exit ≡ rowPut p ws (length rows) r → Behind p old (rows ++ (r ∷ [])) exit
     behind-on exit e =
         record {
           words = e ∙ ap₂ (λ (s x : Words). splice s (p .start) (stopOf p) (written x (length rows * p .columns) r (p .columns))) (be .words) words-are
@@ -165,11 +150,12 @@ pub settled : (p : Part) (count : ℕ) (ws x : Words) → Loose p count ws → l
     → Wrote p (sorted (looseRows p count ws)) ws (set (putMid (p .start) (stopOf p - p .start) ws x) (p .slot) count)
 unfolding looseRows
 settled p count ws x lo e rows above =
-    subst (λ (y : Words). Wrote p (sorted (cut (p .columns) count (wordsIn p ws))) ws (set y (p .slot) count)) (sym (put-back ws (p .start) (stopOf p) x x (omega arith) refl))
-    (wrote-anew p ws (lo .within) (sorted (cut (p .columns) count (wordsIn p ws))) count x
-    (holds (p .columns) count (sorted (cut (p .columns) count (wordsIn p ws))) x rows
+    let all-rows = sorted (cut (p .columns) count (wordsIn p ws)) in
+    wrote p ws (lo .within) all-rows count x
+    (holds (p .columns) count all-rows x rows
     (record {
       fits = omega (arith, rows-room p ws (lo .within) count (lo .fits));
       up = subst (λ (l : Rows). T (rising l)) (sym rows) (rising-sorted (cut (p .columns) count (wordsIn p ws)));
       zeros = subst (λ (l : Words). T (all (eqb 0) l)) (sym above) (lo .zeros);
-    })) (e ∙ part-long p ws (lo .within)))
+    }))
+    e

@@ -5,12 +5,12 @@ use mathlib.Core.Path.{_≡_, refl}
 use lib.ListN.{length, length-set}
 use Rattle.rows.specs.Words.{row, written}
 use Rattle.rows.proofs.Moves.{written-start}
-use Rattle.columns.specs.Gives.{gives}
-use Rattle.columns.proofs.Words.{column-in, row-in, give-own, give-other, give-end}
+use Rattle.list_part.specs.Gives.{gives}
+use Rattle.list_part.proofs.Words.{column-in, row-in, give-own, give-other, give-end}
 use borrow.Author.Needs.{needs}
 use native.Mathlib.Omega.{arith}
-use Rattle.columns.proofs.give_row.Statement.{statement}
-use Rattle.columns.proofs.give_row.Tie as tie
+use Rattle.list_part.proofs.columns.give_row.Statement.{statement}
+use Rattle.list_part.proofs.columns.give_row.Tie as tie
 
 abbrev Inv-loop : tie.InvT-loop
 Inv-loop sheet s₀ i t r p base k₀ s k = (k ≤ p) × (i * p + p ≤ length s₀) × (length s ≡ length s₀) × (s ≡ written s₀ (i * p) (gives sheet t r (row p i s₀)) k)

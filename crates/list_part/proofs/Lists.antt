@@ -1,16 +1,14 @@
 -- The list's part: its columns are the sheet's listed ones, in a sound store it is kept, and its rows have room; and a row made in the front of a run.
 -- Assumes nothing.
-use Prim.Native.Nat.{ℕ, _*_, _≤_}
+use Prim.Native.Nat.{ℕ, _≤_}
 use mathlib.Core.Path.{_≡_, sym, ap, _∙_}
 use mathlib.Core.List.{_++_}
 use native.Mathlib.Omega.{arith}
 use lib.Dec.{T}
 use lib.ListN.{length, take, length-append}
 use lib.Seq.{take-at}
-use Rattle.lists.specs.Lists.{Words, at}
-use Rattle.lists.specs.Parts.{splice}
+use Rattle.lists.specs.Lists.{Words}
 use Rattle.rows.specs.Rows.{Row}
-use Rattle.rows.specs.Words.{written}
 use Rattle.rows.proofs.Cut.{cut-length}
 use Rattle.meaning.specs.Sheet.{Sheet, sheetOf, listedCount}
 use Rattle.meaning.specs.Meaning.{Way, listRow}
@@ -20,9 +18,10 @@ use Rattle.laws.proofs.Sheets.{Good}
 use Rattle.laws.proofs.Stores.{sound-get}
 use Rattle.sheet.specs.Rules.{Rules}
 use Rattle.places.proofs.Stands.{sound-stands}
-use Rattle.columns.proofs.Words.{listed-many}
+use Rattle.list_part.proofs.Words.{listed-many}
 use Rattle.store.specs.declared.Part.{Part}
-use Rattle.store.specs.Parts.{stopOf, wordsIn, countIn, rowsIn, Lies, Kept}
+use Rattle.list_part.specs.Loose.{rowPut}
+use Rattle.store.specs.Parts.{wordsIn, countIn, rowsIn, Lies, Kept}
 use Rattle.store.proofs.Lying.{count-is, lies-kept}
 
 -- a part has as many rows as its count says
@@ -63,6 +62,5 @@ module _ (w : ℕ) (x z l : Words) (e : x ≡ l) (long : length l ≡ w) where
   front-wide = ap length front-is ∙ long
 
 -- row k that is another's words
-pub put-is : (p : Part) (ws exit : Words) (k : ℕ) (row : Row) {l : Row} → exit ≡ splice ws (p .start) (stopOf p) (written (wordsIn p ws) (k * p .columns) row (p .columns)) → row ≡ l
-    → exit ≡ splice ws (p .start) (stopOf p) (written (wordsIn p ws) (k * p .columns) l (p .columns))
-put-is p ws exit k row e h = e ∙ ap (λ (l : Row). splice ws (p .start) (stopOf p) (written (wordsIn p ws) (k * p .columns) l (p .columns))) h
+pub put-is : (p : Part) (ws exit : Words) (k : ℕ) (row : Row) {l : Row} → exit ≡ rowPut p ws k row → row ≡ l → exit ≡ rowPut p ws k l
+put-is p ws exit k row e h = e ∙ ap (rowPut p ws k) h

@@ -4,7 +4,7 @@ ghost use Prim.Native.Nat.{ℕ, _+_, _*_, _<_, _≤_};
 ghost use lib.ListN.{length};
 ghost use Rattle.meaning.specs.Sheet.{listedCount};
 ghost use Rattle.sheet.specs.Rules.{Rules};
-ghost use Rattle.columns.specs.Gives.{rowShows, rowGiven, given, Fits};
+ghost use Rattle.list_part.specs.Gives.{rowShows, rowGiven, given, Fits};
 
 // Whether row i of s shows r's values in table t's columns.
 pub fn shows_row(sheet: &[u64], s: &[u64], i: usize, t: usize, r: &[u64]) -> bool

@@ -18,8 +18,8 @@ use Rattle.rows.proofs.Marks.{flat-append, cut-snoc}
 use Rattle.meaning.specs.Sheet.{listedCount}
 use Rattle.walks.specs.Marks.{altered, isMarked}
 use Rattle.walks.proofs.Marks.{length-altered}
-use Rattle.columns.specs.Gives.{gives, given, rowGiven}
-use Rattle.columns.proofs.Words.{gives-length}
+use Rattle.list_part.specs.Gives.{gives, given, rowGiven}
+use Rattle.list_part.proofs.Words.{gives-length}
 
 flat-one : (r : Row) → flat (r ∷ []) ≡ r
 flat-one [] = refl

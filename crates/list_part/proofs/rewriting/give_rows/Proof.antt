@@ -8,8 +8,8 @@ use Rattle.lists.proofs.Parts.{put-back}
 use Rattle.store.specs.Parts.{wordsIn}
 use borrow.Author.Needs.{needs}
 use native.Mathlib.Omega.{arith}
-use Rattle.listpart.proofs.give_rows.Statement.{statement}
-use Rattle.listpart.proofs.give_rows.Tie as tie
+use Rattle.list_part.proofs.rewriting.give_rows.Statement.{statement}
+use Rattle.list_part.proofs.rewriting.give_rows.Tie as tie
 
 mul-to : tie.Need-mul-to
 mul-to c = search needs
@@ -37,16 +37,18 @@ part-give-marked-end c = search needs
 
 give-marked-requires : tie.Need-give-marked-requires
 unfolding wordsIn part
-give-marked-requires c κs = let st = c .before .before .before .before .before .before .before in
-    let k = st .pre .1 .1 .0 in
-    (st .pre .0, (st .pre .1 .0, (omega (arith, k .region .fits, ap (λ (w : ℕ). getD (st .args .store .now) (st .args .p .slot) 0 * w) (st .pre .1 .1 .1 .0)), st .pre .1 .1 .1 .1)))
+give-marked-requires c κs =
+    let start = c .before .before .before .before .before .before .before in
+    let pre = start .pre in
+    let as-wide = ap (λ (w : ℕ). getD (start .args .store .now) (start .args .p .slot) 0 * w) (pre .1 .1 .1 .0) in
+    (pre .0, (pre .1 .0, (omega (arith, pre .1 .1 .0 .region .fits, as-wide), pre .1 .1 .1 .1)))
 
 same-length : tie.Need-same-length
 same-length c = search needs
 
 returns : tie.Need-returns
 unfolding wordsIn part
-returns c = let st = c .before .before .before .before .before .before .before .before .before .before in put-back _ _ _ _ _ (omega arith) (c .before .before .give-marked .ensures)
+returns c = put-back _ _ _ _ _ (omega arith) (c .before .before .give-marked .ensures)
 
 pub give-rows-spec : {M : Type 1} → statement M
 give-rows-spec =

@@ -28,7 +28,7 @@ use Rattle.sheet.specs.Read.{ReadsListing}
 use Rattle.sheet.specs.Rules.{Rules}
 use Rattle.sheet.specs.declared.reading.Listing.{Listing}
 use Rattle.sheet.proofs.Words.{listed-are}
-use Rattle.columns.specs.Gives.{gives, shows, showsAt, rowShows, rowGiven, Fits}
+use Rattle.list_part.specs.Gives.{gives, shows, showsAt, rowShows, rowGiven, Fits}
 
 -- a listed column of r's table is one of r's
 pub column-in : (ws : Words) (t : ℕ) (r : Row) (p j : ℕ) (l : Listing) → Rules ws → Fits ws t r → p ≡ listedCount ws → j < p → ReadsListing ws j l

@@ -5,12 +5,12 @@ use mathlib.Core.Path.{_≡_, refl, _∙_}
 use lib.ListN.{length}
 use Rattle.rows.proofs.Cut.{row-fits}
 use Rattle.meaning.specs.Sheet.{listedCount}
-use Rattle.columns.specs.Gives.{given}
-use Rattle.columns.proofs.Given.{is-marked, not-marked, given-start, given-stay, given-more}
+use Rattle.list_part.specs.Gives.{given}
+use Rattle.list_part.proofs.Given.{is-marked, not-marked, given-start, given-stay, given-more}
 use borrow.Author.Needs.{needs}
 use native.Mathlib.Omega.{arith}
-use Rattle.columns.proofs.give_marked.Statement.{statement}
-use Rattle.columns.proofs.give_marked.Tie as tie
+use Rattle.list_part.proofs.columns.give_marked.Statement.{statement}
+use Rattle.list_part.proofs.columns.give_marked.Tie as tie
 
 abbrev Inv-loop : tie.InvT-loop
 Inv-loop sheet s₀ count marks t r i₀ s i = (i ≤ count) × (length s ≡ length s₀) × (s ≡ given sheet t r marks i s₀)

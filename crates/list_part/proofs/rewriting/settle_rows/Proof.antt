@@ -2,10 +2,10 @@
 -- Assumes nothing.
 use Rattle.lists.specs.Parts.{part}
 use Rattle.store.specs.Parts.{wordsIn}
-use Rattle.listpart.proofs.Rewrites.{rows-room, settled}
+use Rattle.list_part.proofs.Rewrites.{rows-room, settled}
 use borrow.Author.Needs.{needs}
-use Rattle.listpart.proofs.settle_rows.Statement.{statement}
-use Rattle.listpart.proofs.settle_rows.Tie as tie
+use Rattle.list_part.proofs.rewriting.settle_rows.Statement.{statement}
+use Rattle.list_part.proofs.rewriting.settle_rows.Tie as tie
 
 mul-to : tie.Need-mul-to
 mul-to c = search needs
@@ -27,7 +27,9 @@ part-settle-end c = search needs
 
 settle-requires : tie.Need-settle-requires
 unfolding wordsIn part
-settle-requires c κs = let st = c .before .before .before in (rows-room _ _ (st .pre .0 .within) _ (st .pre .0 .fits), st .pre .1)
+settle-requires c κs =
+    let pre = c .before .before .before .pre in
+    (rows-room _ _ (pre .0 .within) _ (pre .0 .fits), pre .1)
 
 mul-store : tie.Need-mul-store
 mul-store c = search needs
@@ -40,8 +42,9 @@ same-length c = search needs
 
 returns : tie.Need-returns
 unfolding wordsIn part
-returns c = let st = c .before .before .before .before .before .before in
-    settled _ _ _ _ (st .pre .0) (c .before .before .settle .kept .0) (c .before .before .settle .ensures .0) (c .before .before .settle .ensures .1)
+returns c =
+    let call = c .before .before .settle in
+    settled _ _ _ _ (c .before .before .before .before .before .before .pre .0) (call .kept .0) (call .ensures .0) (call .ensures .1)
 
 pub settle-rows-spec : {M : Type 1} → statement M
 settle-rows-spec =
