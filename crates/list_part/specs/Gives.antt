@@ -1,0 +1,43 @@
+-- A list row with one table's columns from another row, read from the sheet's words, and whether it shows them already.
+-- Assumes nothing.
+use Prim.Native.Nat.{ℕ, _*_, _<_}
+use mathlib.Core.Path.{_≡_}
+use mathlib.Core.Bool.{Bool}
+use mathlib.Core.List.{_++_}
+use lib.Dec.{eqb}
+use lib.ListN.{length, drop}
+use Rattle.lists.specs.Lists.{Words, at, flat}
+use Rattle.rows.specs.Rows.{Row, sameRow, cut}
+use Rattle.rows.specs.Words.{row, written}
+use Rattle.meaning.specs.Sheet.{sheetOf, tableCount, listedCount}
+use Rattle.meaning.specs.Change.{withColumns}
+use Rattle.sheet.specs.Numbered.{widthNo}
+use Rattle.walks.specs.Marks.{altered, isMarked}
+
+-- the list row with r's values in table t's columns
+unfoldable pub gives : Words → ℕ → Row → Row → Row
+gives ws t r row = withColumns (sheetOf ws .listed) t r row
+
+-- it shows them
+unfoldable pub shows : Words → ℕ → Row → Row → Bool
+shows ws t r row = sameRow row (gives ws t r row)
+
+-- its word j does
+unfoldable pub showsAt : Words → ℕ → Row → Row → ℕ → Bool
+showsAt ws t r row j = eqb (at row j) (at (gives ws t r row) j)
+
+-- row i of a run of words shows them, and the words with row i given
+abbrev pub rowShows : Words → ℕ → Row → ℕ → Words → Bool
+rowShows ws t r i s = shows ws t r (row (listedCount ws) i s)
+
+abbrev pub rowGiven : Words → ℕ → Row → ℕ → Words → Words
+rowGiven ws t r i s = written s (i * listedCount ws) (gives ws t r (row (listedCount ws) i s)) (listedCount ws)
+
+-- the first n rows of a run, those that are marked with r's values, and the words behind them
+unfoldable pub given : Words → ℕ → Row → Words → ℕ → Words → Words
+given ws t r marks n s = flat (altered (isMarked marks) (gives ws t r) (cut (listedCount ws) n s)) ++ drop (n * listedCount ws) s
+
+-- r is a row for table t
+pub record Fits (ws : Words) (t : ℕ) (r : Row) : Type 0 where
+  pub table : t < tableCount ws
+  pub wide : length r ≡ widthNo ws t
