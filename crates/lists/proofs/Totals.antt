@@ -1,14 +1,14 @@
 -- Laws of totals: over parts, maps, selections and ways; and what two lists of the same elements share.
 -- Assumes nothing.
-use Prim.Native.Nat.{ℕ, zero, suc, _+_, _<_}
+use Prim.Native.Nat.{ℕ, _+_}
 use mathlib.Core.Path.{_≡_, refl, sym, ap, ap₂, _∙_, fun-ext}
 use mathlib.Core.Bool.{Bool, true, false, cond, not, _&&_, _||_}
 use mathlib.Core.List.{List, [], _∷_, _++_, map}
 use mathlib.Core.Logic.{inl, inr}
-use native.Mathlib.Nat.{add-zero, zero-add, le-of-suc-le-suc, not-suc-le-zero, add-assoc}
+use native.Mathlib.Nat.{zero-add, add-assoc}
 use native.Mathlib.Omega.{arith}
 use lib.Dec.{ltb}
-use lib.ListN.{length, set}
+use lib.ListN.{length}
 use borrow.Author.Tests.{lt-ltb}
 use Rattle.lists.specs.Lists.{all, any, select, flat, choices}
 use Rattle.lists.specs.Totals.{total, one, Same}
@@ -44,20 +44,6 @@ pub total-sum : {A : Type 0} (f g : A → ℕ) (xs : List A) → total (λ x. f 
 unfolding total
 total-sum f g [] = refl
 total-sum f g (x ∷ xs) = ap (λ k. f x + g x + k) (total-sum f g xs) ∙ omega arith
-
--- one row more in table t: the ways that take it, and the ways as before
-pub one-more : {A : Type 0} (f : List A → ℕ) (base : List (List A)) (t : ℕ) (r : A) (rows : List A) → t < length base
-    → total f (choices (set base t (r ∷ rows))) ≡ total f (choices (set base t (r ∷ []))) + total f (choices (set base t rows))
-unfolding total
-one-more f [] t r rows h = absurd (not-suc-le-zero h)
-one-more f (xs ∷ base) zero r rows h =
-    total-choices f (r ∷ rows) base
-    ∙ ap₂ _+_ (sym (total-choices f (r ∷ []) base ∙ add-zero (total (λ way. f (r ∷ way)) (choices base)))) (sym (total-choices f rows base))
-one-more f (xs ∷ base) (suc t) r rows h =
-    total-choices f xs (set base t (r ∷ rows))
-    ∙ ap (λ g. total g xs) (fun-ext (λ x. one-more (λ way. f (x ∷ way)) base t r rows (le-of-suc-le-suc h)))
-    ∙ total-sum (λ x. total (λ way. f (x ∷ way)) (choices (set base t (r ∷ [])))) (λ x. total (λ way. f (x ∷ way)) (choices (set base t rows))) xs
-    ∙ ap₂ _+_ (sym (total-choices f xs (set base t (r ∷ [])))) (sym (total-choices f xs (set base t rows)))
 
 pub total-select : {A : Type 0} (f : A → ℕ) (p : A → Bool) (xs : List A) → total f (select p xs) ≡ total (λ x. cond (p x) (f x) 0) xs
 unfolding total

@@ -77,10 +77,6 @@ cut-take w k ws m ys e h =
     let l : k * w ≤ length (take m ws) = simp length-take (omega arith) in
     cut-front w k (take m ws) ys l ∙ sym (cut-front w k (take m ws) (drop m ws) l) ∙ ap (cut w k) (take-append-drop m ws)
 
--- an append: a rows that fill xs, then b rows of ys
-pub cut-append : (w a b : ℕ) (xs ys : Words) → length xs ≡ a * w → cut w (a + b) (xs ++ ys) ≡ cut w a xs ++ cut w b ys
-cut-append w a b xs ys e = rw (cut-split w a b (xs ++ ys), cut-front w a xs ys (omega arith), drop-at xs ys (a * w) e)
-
 -- every row has w columns
 abbrev pub Wide : ℕ → Rows → Type 0
 Wide w rows = T (all (λ r. eqb (length r) w) rows)
@@ -121,7 +117,3 @@ flat-cut w zero ws = rw (zero-mul w)
 flat-cut w (suc k) ws =
     let m : suc k * w ≡ w + k * w = omega (arith, suc-mul k w) in
     rw (m, take-add w (k * w) ws) (ap (λ (l : Words). take w ws ++ l) (flat-cut w k (drop w ws)))
-
--- two runs with the same rows agree in the words of these rows
-pub same-cut : (w k : ℕ) (xs ys : Words) → cut w k xs ≡ cut w k ys → take (k * w) xs ≡ take (k * w) ys
-same-cut w k xs ys e = sym (flat-cut w k xs) ∙ ap flat e ∙ flat-cut w k ys

@@ -1,6 +1,6 @@
 -- Keys: rows with rising keys rise and have no key twice, and rising rows with no key twice have rising keys.
 -- Assumes nothing.
-use Prim.Native.Nat.{ℕ, zero, suc, _+_, _<_, _≤_, zero-le, suc-le-suc}
+use Prim.Native.Nat.{ℕ, zero, suc, _+_, _<_, _≤_}
 use mathlib.Core.Path.{_≡_, refl, sym, ap, ap₂, _∙_, subst}
 use mathlib.Core.Bool.{Bool, true, false, cond, not, _&&_, _||_, true≢false}
 use mathlib.Core.List.{List, [], _∷_, map}
@@ -9,18 +9,17 @@ use native.Mathlib.Omega.{arith}
 use lib.Dec.{T, ltb, eqb, ltb→lt, lt→ltb}
 use lib.ListN.{length, getD, set}
 use lib.Seq.{map-set-same}
-use borrow.Author.Tests.{ne-eqb, eq-eqb}
 use Rattle.lists.specs.Lists.{all, any, select}
 use Rattle.lists.specs.Totals.{total}
 use Rattle.lists.proofs.Totals.{total-cons}
-use Rattle.lists.proofs.Truth.{Mem, F→≡, F→not, not→F, false→F, same-test, and-fst, and-snd, and-both, all-get, all-make, any-get, any-make, mem-map, map-mem, mem-getD, eq→eqb, eqb→≡}
+use Rattle.lists.proofs.Truth.{Mem, F→not, not→F, same-test, and-fst, and-snd, and-both, all-get, all-make, any-get, any-make, mem-map, map-mem, mem-getD, eq→eqb, eqb→≡}
 use Rattle.rows.specs.Rows.{Row, Rows, key, rowOrder, thenBy, isLess, smaller, notAfter, rising, putRow, takeRow, hasKey, noKeyTwice}
 use Rattle.rows.specs.Ranks.{rankKey}
 use Rattle.rows.specs.Regions.{keysRise}
 use Rattle.rows.proofs.Ordered.{Compared, lt, eq, gt, compared, word-less, false-after, smaller-once}
 use Rattle.rows.proofs.Sorted.{rising-first, rising-rest, rising-cons, rising-put, rising-take, same-rising, total-put, same-take}
 use Rattle.rows.proofs.Search.{key-up}
-use Rattle.rows.proofs.Ranks.{mem-at, rankKey-at, There}
+use Rattle.rows.proofs.Ranks.{rankKey-at, There}
 use Rattle.rows.proofs.Pairs.{pairs-at, keyLess, keys-pairs}
 
 pub key-smaller : (r s : Row) → key r < key s → smaller r s ≡ true
@@ -67,7 +66,7 @@ once-up (r ∷ rows) u h =
 pub keys-rise : (rows : Rows) → keysRise rows ≡ (rising rows && noKeyTwice rows)
 keys-rise rows = same-test (keysRise rows) (rising rows && noKeyTwice rows) (up-once rows) (λ h. once-up rows (and-fst (rising rows) (noKeyTwice rows) h) (and-snd (rising rows) (noKeyTwice rows) h))
 
--- a selection that none, or only row i, passes
+-- a selection that none passes
 pub select-none : (p : Row → Bool) (rows : Rows) → any p rows ≡ false → select p rows ≡ []
 select-none p [] e = refl
 select-none p (r ∷ rows) e = go (p r) (select-none p rows) e
@@ -75,19 +74,6 @@ select-none p (r ∷ rows) e = go (p r) (select-none p rows) e
     go : (b : Bool) → (any p rows ≡ false → select p rows ≡ []) → (b || any p rows) ≡ false → cond b (r ∷ select p rows) (select p rows) ≡ []
     go true ih e = absurd (true≢false e)
     go false ih e = ih e
-
-select-only : (p : Row → Bool) (rows : Rows) (i : ℕ) → i < length rows → p (getD rows i []) ≡ true
-    → ((j : ℕ) → j < length rows → (j ≡ i → ⊥) → p (getD rows j []) ≡ false) → select p rows ≡ getD rows i [] ∷ []
-select-only p [] i l e f = absurd (not-suc-le-zero l)
-select-only p (r ∷ rows) zero l e f =
-    let n : any p rows ≡ false = F→≡ (any p rows) (λ h.
-    let m = any-get p rows h in
-    let q = mem-at [] (m .0) rows (m .1) in
-    false→F (f (suc (q .0)) (suc-le-suc (q .1)) (λ z. omega arith)) (rw (q .2) (m .2))) in
-    rw e (ap (λ (l : Rows). r ∷ l) (select-none p rows n))
-select-only p (r ∷ rows) (suc i) l e f =
-    rw (f 0 (suc-le-suc zero-le) (λ z. omega arith))
-    (select-only p rows i (le-of-suc-le-suc l) e (λ j m d. f (suc j) (suc-le-suc m) (λ z. d (omega arith))))
 
 -- the keys of a side table
 module _ (rows : Rows) (u : T (rising rows)) (once : T (noKeyTwice rows)) where
@@ -106,12 +92,6 @@ module _ (rows : Rows) (u : T (rising rows)) (once : T (noKeyTwice rows)) where
       go (lt h) m q = absurd (omega (arith, keys-at i (rankKey k rows) h m))
       go (eq h) m q = h
       go (gt h) m q = absurd (omega (arith, keys-at (rankKey k rows) i h l))
-
-  pub select-key : (k : ℕ) → T (hasKey k rows) → select (λ r. eqb k (key r)) rows ≡ getD rows (rankKey k rows) [] ∷ []
-  select-key k h =
-      let p = rankKey-at k rows u h in
-      select-only (λ r. eqb k (key r)) rows (rankKey k rows) (p .0) (eq-eqb k _ (sym (p .1)))
-      (λ j l d. ne-eqb k (key (getD rows j [])) (λ e. d (only-at k j l (sym e))))
 
 pub select-key-none : (k : ℕ) (rows : Rows) → hasKey k rows ≡ false → select (λ r. eqb k (key r)) rows ≡ []
 select-key-none k rows e = select-none (λ r. eqb k (key r)) rows e

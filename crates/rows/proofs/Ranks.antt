@@ -47,10 +47,6 @@ pub rankKey-le : (k : ℕ) (rows : Rows) → rankKey k rows ≤ length rows
 unfolding rankKey
 rankKey-le k rows = passes-le (λ q. ltb (key q) k) rows
 
-pub times-le : (r : Row) (rows : Rows) → times r rows ≤ length rows
-unfolding times
-times-le r rows = passes-le (sameRow r) rows
-
 -- the place of a row among the rows of a run
 pub place-le : (w n k : ℕ) (r : Row) (s : Words) → k ≡ rank r (cut w n s) → k ≤ n
 place-le w n k r s e = rw (← cut-length w n s, e) (rank-le r (cut w n s))

@@ -49,11 +49,6 @@ pub zeros-are : (ws : Words) → T (all (eqb 0) ws) → ws ≡ replicate (length
 zeros-are [] h = refl
 zeros-are (x ∷ ws) h = ap₂ _∷_ (sym (eqb→≡ 0 x (and-fst (eqb 0 x) (all (eqb 0) ws) h))) (zeros-are ws (and-snd (eqb 0 x) (all (eqb 0) ws) h))
 
--- the words of rows, as the store has them
-pub laid-is : (k : ℕ) (rows : Rows) → laid k rows ≡ flat rows ++ replicate (k - length (flat rows)) 0
-unfolding laid
-laid-is k rows = refl
-
 -- A region's every word is known by its rows
 pub region-words : (w n : ℕ) (s : Words) → Region w n s → s ≡ laid (length s) (cut w n s)
 unfolding laid
