@@ -88,19 +88,10 @@ first-end t k n a b h = first-none t n (subst (λ (m : ℕ). some t m ≡ false)
 pub every-at : (t : ℕ → Bool) (i n : ℕ) → i < n → every t n ≡ true → t i ≡ true
 unfolding every
 every-at t i zero l h = absurd (omega arith)
-every-at t i (suc n) l h = ⊎-elim (λ q. here q) (λ m. every-at t i n m (left (every t n) (t n) h)) (split i n l)
+every-at t i (suc n) l h = ⊎-elim (λ q. rw q (both .1)) (λ m. every-at t i n m (both .0)) (split i n l)
   where
-    left : (a b : Bool) → (a && b) ≡ true → a ≡ true
-    left true b e = refl
-    left false b e = e
-
-    right : (a b : Bool) → (a && b) ≡ true → b ≡ true
-    right true b e = e
-    right false true e = refl
-    right false false e = e
-
-    here : i ≡ n → t i ≡ true
-    here q = rw q (right (every t n) (t n) h)
+    both : (every t n ≡ true) × (t n ≡ true)
+    both = and-true (every t n) (t n) h
 
 -- a test that cannot be true is false
 pub no : (b : Bool) → (b ≡ true → ⊥) → false ≡ b

@@ -12,6 +12,10 @@ pub append-assoc : {A : Type 0} (xs ys zs : List A) → (xs ++ ys) ++ zs ≡ xs 
 append-assoc [] ys zs = refl
 append-assoc (x ∷ xs) ys zs = ap (λ l. x ∷ l) (append-assoc xs ys zs)
 
+pub flat-append : {A : Type 0} (xss yss : List (List A)) → flat (xss ++ yss) ≡ flat xss ++ flat yss
+flat-append [] yss = refl
+flat-append (xs ∷ xss) yss = ap (λ l. xs ++ l) (flat-append xss yss) ∙ sym (append-assoc xs (flat xss) (flat yss))
+
 pub length-from : (i k : ℕ) → length (from i k) ≡ k
 length-from i zero = refl
 length-from i (suc k) = ap suc (length-from (suc i) k)

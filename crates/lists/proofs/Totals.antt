@@ -1,14 +1,14 @@
 -- Laws of totals: over parts, maps, selections and ways; and what two lists of the same elements share.
 -- Assumes nothing.
-use Prim.Native.Nat.{ℕ, _+_}
+use Prim.Native.Nat.{ℕ, zero, suc, _+_, _<_}
 use mathlib.Core.Path.{_≡_, refl, sym, ap, ap₂, _∙_, fun-ext}
 use mathlib.Core.Bool.{Bool, true, false, cond, not, _&&_, _||_}
 use mathlib.Core.List.{List, [], _∷_, _++_, map}
 use mathlib.Core.Logic.{inl, inr}
-use native.Mathlib.Nat.{zero-add, add-assoc}
+use native.Mathlib.Nat.{zero-add, add-assoc, not-suc-le-zero, le-of-suc-le-suc}
 use native.Mathlib.Omega.{arith}
-use lib.Dec.{ltb}
-use lib.ListN.{length}
+use lib.Dec.{T, ltb}
+use lib.ListN.{length, getD, set}
 use borrow.Author.Tests.{lt-ltb}
 use Rattle.lists.specs.Lists.{all, any, select, flat, choices}
 use Rattle.lists.specs.Totals.{total, one, Same}
@@ -97,6 +97,9 @@ module _ {A : Type 0} where
           go true e = e
           go false e = refl
 
+  pub same-all : (p : A → Bool) (xs ys : List A) → Same xs ys → T (all p ys) → T (all p xs)
+  same-all p xs ys e h = rw (all-of p xs ys e) h
+
   pub same-sym : (xs ys : List A) → Same xs ys → Same ys xs
   same-sym xs ys h f = sym (h f)
 
@@ -110,6 +113,13 @@ module _ {A : Type 0} where
 
   pub same-length : (xs ys : List A) → Same xs ys → length xs ≡ length ys
   same-length xs ys h = sym (total-length xs) ∙ h (λ x. 1) ∙ total-length ys
+
+  -- one element set
+  pub total-set : (d : A) (f : A → ℕ) (xs : List A) (i : ℕ) (a : A) → i < length xs → total f (set xs i a) + f (getD xs i d) ≡ total f xs + f a
+  unfolding total
+  total-set d f [] i a h = absurd (not-suc-le-zero h)
+  total-set d f (x ∷ xs) zero a h = omega arith
+  total-set d f (x ∷ xs) (suc i) a h = omega (arith, total-set d f xs i a (le-of-suc-le-suc h))
 
 module _ {A B : Type 0} where
   pub same-map : (g : A → B) (xs ys : List A) → Same xs ys → Same (map g xs) (map g ys)

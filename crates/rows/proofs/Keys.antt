@@ -1,17 +1,17 @@
 -- Keys: rows with rising keys rise and have no key twice, and rising rows with no key twice have rising keys.
 -- Assumes nothing.
-use Prim.Native.Nat.{ℕ, zero, suc, _+_, _<_, _≤_}
+use Prim.Native.Nat.{ℕ, _<_, _≤_}
 use mathlib.Core.Path.{_≡_, refl, sym, ap, ap₂, _∙_, subst}
 use mathlib.Core.Bool.{Bool, true, false, cond, not, _&&_, _||_, true≢false}
-use mathlib.Core.List.{List, [], _∷_, map}
-use native.Mathlib.Nat.{not-suc-le-zero, le-of-suc-le-suc}
+use mathlib.Core.List.{[], _∷_, map}
+use native.Mathlib.Nat.{not-suc-le-zero}
 use native.Mathlib.Omega.{arith}
 use lib.Dec.{T, ltb, eqb, ltb→lt, lt→ltb}
 use lib.ListN.{length, getD, set}
 use lib.Seq.{map-set-same}
-use Rattle.lists.specs.Lists.{all, any, select}
-use Rattle.lists.specs.Totals.{total}
-use Rattle.lists.proofs.Totals.{total-cons}
+use Rattle.lists.specs.Lists.{all, any, select, rises}
+use Rattle.lists.proofs.Totals.{total-cons, total-set}
+use Rattle.lists.proofs.Rises.{rises-at}
 use Rattle.lists.proofs.Truth.{Mem, F→not, not→F, same-test, and-fst, and-snd, and-both, all-get, all-make, any-get, any-make, mem-map, map-mem, mem-getD, eq→eqb, eqb→≡}
 use Rattle.rows.specs.Rows.{Row, Rows, key, rowOrder, thenBy, isLess, smaller, notAfter, rising, putRow, takeRow, hasKey, noKeyTwice}
 use Rattle.rows.specs.Ranks.{rankKey}
@@ -20,7 +20,7 @@ use Rattle.rows.proofs.Ordered.{Compared, lt, eq, gt, compared, word-le
 use Rattle.rows.proofs.Sorted.{rising-first, rising-rest, rising-cons, rising-put, rising-take, same-rising, total-put, same-take}
 use Rattle.rows.proofs.Search.{key-up}
 use Rattle.rows.proofs.Ranks.{rankKey-at, There}
-use Rattle.rows.proofs.Pairs.{pairs-at, keyLess, keys-pairs}
+use Rattle.rows.proofs.Pairs.{keyLess, keys-are}
 
 pub key-smaller : (r s : Row) → key r < key s → smaller r s ≡ true
 unfolding smaller rowOrder thenBy isLess
@@ -79,7 +79,7 @@ select-none p (r ∷ rows) e = go (p r) (select-none p rows) e
 module _ (rows : Rows) (u : T (rising rows)) (once : T (noKeyTwice rows)) where
   pub keys-at : (i j : ℕ) → i < j → j < length rows → key (getD rows i []) < key (getD rows j [])
   keys-at i j l m =
-      ltb→lt (key (getD rows i [])) (key (getD rows j [])) (pairs-at keyLess rows (subst T (keys-pairs rows) (once-up rows u once)) i j l m)
+      ltb→lt (key (getD rows i [])) (key (getD rows j [])) (rises-at keyLess [] rows (subst T (keys-are rows) (once-up rows u once)) i j l m)
 
   -- a key stands at its place and nowhere else
   pub only-at : (k i : ℕ) → i < length rows → key (getD rows i []) ≡ k → i ≡ rankKey k rows
@@ -97,24 +97,14 @@ pub select-key-none : (k : ℕ) (rows : Rows) → hasKey k rows ≡ false → se
 select-key-none k rows e = select-none (λ r. eqb k (key r)) rows e
 
 -- A side table's row replaced by one with the same key
-abbrev numbersRise : List ℕ → Bool
-numbersRise [] = true
-numbersRise (x ∷ xs) = all (ltb x) xs && numbersRise xs
-
-keys-numbers : (rows : Rows) → keysRise rows ≡ numbersRise (map key rows)
-unfolding keysRise
+keys-numbers : (rows : Rows) → keysRise rows ≡ rises ltb (map key rows)
+unfolding keysRise rises
 keys-numbers [] = refl
 keys-numbers (r ∷ rows) = ap₂ _&&_ (each rows) (keys-numbers rows)
   where
     each : (rows : Rows) → all (keyLess r) rows ≡ all (ltb (key r)) (map key rows)
     each [] = refl
     each (s ∷ rows) = ap (λ b. ltb (key r) (key s) && b) (each rows)
-
-total-set : (f : Row → ℕ) (rows : Rows) (i : ℕ) (r : Row) → i < length rows → total f (set rows i r) + f (getD rows i []) ≡ f r + total f rows
-unfolding total
-total-set f [] i r l = absurd (not-suc-le-zero l)
-total-set f (q ∷ rows) zero r l = omega arith
-total-set f (q ∷ rows) (suc i) r l = omega (arith, total-set f rows i r (le-of-suc-le-suc l))
 
 pub record Replaced (old new : Row) (rows : Rows) (i : ℕ) : Type 0 where
   pub up : T (rising (set rows i new))
@@ -124,7 +114,7 @@ pub record Replaced (old new : Row) (rows : Rows) (i : ℕ) : Type 0 where
 pub replace-side : (old new : Row) (rows : Rows) (i : ℕ) → T (rising rows) → T (noKeyTwice rows) → There old rows i → key new ≡ key old → Replaced old new rows i
 replace-side old new rows i u once t e =
     let keys : map key (set rows i new) ≡ map key rows = map-set-same key rows i new [] (e ∙ ap key (sym (t .there))) in
-    let k : T (keysRise (set rows i new)) = subst T (keys-numbers rows ∙ ap numbersRise (sym keys) ∙ sym (keys-numbers (set rows i new))) (once-up rows u once) in
+    let k : T (keysRise (set rows i new)) = subst T (keys-numbers rows ∙ ap (rises ltb) (sym keys) ∙ sym (keys-numbers (set rows i new))) (once-up rows u once) in
     let both : T (rising (set rows i new) && noKeyTwice (set rows i new)) = up-once (set rows i new) k in
     let up : T (rising (set rows i new)) = and-fst (rising (set rows i new)) (noKeyTwice (set rows i new)) both in
     record {
@@ -132,5 +122,5 @@ replace-side old new rows i u once t e =
       once = and-snd (rising (set rows i new)) (noKeyTwice (set rows i new)) both;
       is =
           same-rising (putRow new (takeRow old rows)) (set rows i new) (rising-put new (takeRow old rows) (rising-take old rows u)) up (λ f.
-          omega (arith, total-put f new (takeRow old rows), same-take old rows (t .has) f, total-cons f old (takeRow old rows), total-set f rows i new (t .below), ap f (t .there)));
+          omega (arith, total-put f new (takeRow old rows), same-take old rows (t .has) f, total-cons f old (takeRow old rows), total-set [] f rows i new (t .below), ap f (t .there)));
     }

@@ -13,7 +13,8 @@ use lib.ListN.{length, getD, take, drop, set, replicate, length-replicate, lengt
 use lib.Seq.{take-at, drop-at, drop-drop, take-all, getD-set-same, getD-set-other}
 use borrow.Author.Tests.{eqb-true, eqb-false, eq-eqb, ne-eqb, ltb-true, ltb-false}
 use Rattle.lists.specs.Lists.{Words, at, all, flat}
-use Rattle.lists.proofs.Truth.{T→≡, F→≡, false→F, and-fst, and-snd, and-both, or-cases, or-inl, or-inr, decided}
+use Rattle.lists.proofs.Places.{flat-append}
+use Rattle.lists.proofs.Truth.{T→≡, F→≡, false→F, all-cons, all-first, all-rest, or-cases, or-inl, or-inr, decided}
 use Rattle.rows.specs.declared.Order.{Order}
 use Rattle.rows.specs.declared.Order.the-variants.{Less, Equal, Greater}
 use Rattle.rows.specs.Rows.{Row, Rows, cut, rowOrder, sameRow, notAfter, rising, hasRow, takeRow}
@@ -23,7 +24,7 @@ use Rattle.rows.specs.Regions.{Region, Holds}
 use Rattle.rows.specs.Marks.{unmarked, Tally, Tallied, Marking}
 use Rattle.rows.proofs.Ordered.{same-refl, same→≡, ≡→same, order-equal, order-less-differs, order-greater-differs}
 use Rattle.rows.proofs.Sorted.{rising-first, rising-rest, rising-cons}
-use Rattle.rows.proofs.Cut.{cut-length, cut-at, cut-split, cut-suc, cut-zero, cut-flat, Wide, wide-cut, length-flat}
+use Rattle.rows.proofs.Cut.{cut-length, cut-at, cut-snoc, cut-flat, Wide, wide-cut, length-flat}
 use Rattle.rows.proofs.Ranks.{equal-at, equal-place, rankAfter-le}
 use Rattle.rows.proofs.Regions.{holds, all-append, all-zeros, take-none}
 
@@ -32,10 +33,10 @@ module _ (p : Row → Bool) where
   pub all-unmarked : (marks : Words) (rows : Rows) → T (all p rows) → T (all p (unmarked marks rows))
   unfolding unmarked
   all-unmarked marks [] h = tt
-  all-unmarked marks (r ∷ rows) h = go (eqb (at marks 0) 0) (all-unmarked (drop 1 marks) rows (and-snd (p r) (all p rows) h))
+  all-unmarked marks (r ∷ rows) h = go (eqb (at marks 0) 0) (all-unmarked (drop 1 marks) rows (all-rest p r rows h))
     where
       go : (b : Bool) → T (all p (unmarked (drop 1 marks) rows)) → T (all p (cond b (r ∷ unmarked (drop 1 marks) rows) (unmarked (drop 1 marks) rows)))
-      go true ih = and-both (p r) (all p (unmarked (drop 1 marks) rows)) (and-fst (p r) (all p rows) h) ih
+      go true ih = all-cons p r (unmarked (drop 1 marks) rows) (all-first p r rows h) ih
       go false ih = ih
 
 pub rising-unmarked : (marks : Words) (rows : Rows) → T (rising rows) → T (rising (unmarked marks rows))
@@ -76,13 +77,6 @@ pub record Closing (w : ℕ) (marks old : Words) (i k : ℕ) (s : Words) : Type 
   pub long : length s ≡ length old
   pub kept : length (unmarked marks (cut w i old)) ≡ k
   pub words : s ≡ flat (unmarked marks (cut w i old)) ++ drop (k * w) old
-
-pub flat-append : (xs ys : Rows) → flat (xs ++ ys) ≡ flat xs ++ flat ys
-flat-append [] ys = refl
-flat-append (x ∷ xs) ys = ap (λ (l : Words). x ++ l) (flat-append xs ys) ∙ sym (append-assoc x (flat xs) (flat ys))
-
-pub cut-snoc : (w i : ℕ) (s : Words) → cut w (i + 1) s ≡ cut w i s ++ (row w i s ∷ [])
-cut-snoc w i s = cut-split w i 1 s ∙ ap (λ (l : Rows). cut w i s ++ l) (cut-suc w 0 (drop (i * w) s) ∙ ap (λ (l : Rows). row w i s ∷ l) (cut-zero w (drop w (drop (i * w) s))))
 
 pub closing-start : (w : ℕ) (marks s : Words) → Closing w marks s 0 0 s
 unfolding cut unmarked

@@ -12,34 +12,35 @@ use lib.ListN.{length, getD, take, drop, set, replicate, length-replicate, lengt
 use lib.Seq.{length-take-le, drop-at, drop-drop, set-split, take-all}
 use Rattle.lists.specs.Lists.{Words, at, all, flat}
 use Rattle.lists.specs.Totals.{total, one}
-use Rattle.lists.proofs.Truth.{and-fst, and-snd, and-both, eqb→≡}
+use Rattle.lists.proofs.Truth.{all-cons, all-first, all-rest, eqb→≡}
 use Rattle.rows.specs.declared.Found.{Found}
 use Rattle.rows.specs.declared.Found.the-variants.{At, Missing}
 use Rattle.rows.specs.Rows.{Row, Rows, cut, smaller, sameRow, notAfter, rising, putRow, hasRow, takeRow}
 use Rattle.rows.specs.Ranks.{rank, foundRow}
 use Rattle.rows.specs.Words.{row, written, putWords, takeWords}
 use Rattle.rows.specs.Regions.{laid, putAt, takeAt, Region, Holds}
-use Rattle.rows.proofs.Ordered.{smaller-greater, order-greater-differs, false-after, after-false, same-refl}
-use Rattle.rows.proofs.Sorted.{rising-first, rising-rest, rising-cons, rising-put, all-chain}
+use Rattle.rows.proofs.Ordered.{chain, smaller-greater, order-greater-differs, false-after, after-false, same-refl}
+use Rattle.rows.proofs.Sorted.{rising-first, rising-rest, rising-cons, rising-put}
+use Rattle.lists.proofs.Rises.{all-chain}
 use Rattle.rows.proofs.Cut.{row-fits, cut-length, cut-cons, cut-split, cut-take, take-cut, drop-cut, flat-cut}
 use Rattle.rows.proofs.Search.{smaller-falls, passed-below}
 use Rattle.rows.proofs.Ranks.{place-le, There, found-row, missing-row}
 
--- Tests of all elements, over parts; these belong to lists
+-- Tests of all elements, over parts of a list
 module _ {A : Type 0} (p : A → Bool) where
   pub all-drop : (k : ℕ) (xs : List A) → T (all p xs) → T (all p (drop k xs))
   all-drop zero xs h = h
   all-drop (suc k) [] h = tt
-  all-drop (suc k) (x ∷ xs) h = all-drop k xs (and-snd (p x) (all p xs) h)
+  all-drop (suc k) (x ∷ xs) h = all-drop k xs (all-rest p x xs h)
 
   pub all-take : (k : ℕ) (xs : List A) → T (all p xs) → T (all p (take k xs))
   all-take zero xs h = tt
   all-take (suc k) [] h = tt
-  all-take (suc k) (x ∷ xs) h = and-both (p x) (all p (take k xs)) (and-fst (p x) (all p xs) h) (all-take k xs (and-snd (p x) (all p xs) h))
+  all-take (suc k) (x ∷ xs) h = all-cons p x (take k xs) (all-first p x xs h) (all-take k xs (all-rest p x xs h))
 
   pub all-append : (xs ys : List A) → T (all p xs) → T (all p ys) → T (all p (xs ++ ys))
   all-append [] ys h k = k
-  all-append (x ∷ xs) ys h k = and-both (p x) (all p (xs ++ ys)) (and-fst (p x) (all p xs) h) (all-append xs ys (and-snd (p x) (all p xs) h) k)
+  all-append (x ∷ xs) ys h k = all-cons p x (xs ++ ys) (all-first p x xs h) (all-append xs ys (all-rest p x xs h) k)
 
 pub all-zeros : (k : ℕ) → T (all (eqb 0) (replicate k 0))
 all-zeros zero = tt
@@ -47,7 +48,7 @@ all-zeros (suc k) = all-zeros k
 
 pub zeros-are : (ws : Words) → T (all (eqb 0) ws) → ws ≡ replicate (length ws) 0
 zeros-are [] h = refl
-zeros-are (x ∷ ws) h = ap₂ _∷_ (sym (eqb→≡ 0 x (and-fst (eqb 0 x) (all (eqb 0) ws) h))) (zeros-are ws (and-snd (eqb 0 x) (all (eqb 0) ws) h))
+zeros-are (x ∷ ws) h = ap₂ _∷_ (sym (eqb→≡ 0 x (all-first (eqb 0) x ws h))) (zeros-are ws (all-rest (eqb 0) x ws h))
 
 -- A region's every word is known by its rows
 pub region-words : (w n : ℕ) (s : Words) → Region w n s → s ≡ laid (length s) (cut w n s)
@@ -84,8 +85,8 @@ rank-none : (r q : Row) (rows : Rows) → smaller q r ≡ false → T (all (notA
 unfolding rank total
 rank-none r q [] e h = refl
 rank-none r q (s ∷ rows) e h =
-    let a : smaller s r ≡ false = after-false r s (and-fst (notAfter r s) (all (notAfter r) rows) (all-chain r q (s ∷ rows) (false-after r q e) h)) in
-    rw a (omega (arith, rank-none r q rows e (and-snd (notAfter q s) (all (notAfter q) rows) h)))
+    let a : smaller s r ≡ false = after-false r s (all-first (notAfter r) s rows (all-chain notAfter chain r q (s ∷ rows) (false-after r q e) h)) in
+    rw a (omega (arith, rank-none r q rows e (all-rest (notAfter q) s rows h)))
 
 pub put-at-rank : (r : Row) (rows : Rows) → T (rising rows) → putAt (rank r rows) r rows ≡ putRow r rows
 unfolding putRow rank total

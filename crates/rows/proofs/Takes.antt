@@ -10,7 +10,7 @@ use lib.ListN.{length}
 use borrow.Author.Tests.{lt-ltb}
 use Rattle.lists.specs.Lists.{Words, at, all, any, select}
 use Rattle.lists.specs.Totals.{total, one, Same}
-use Rattle.lists.proofs.Truth.{isT, same-test, and-fst, and-snd, and-both}
+use Rattle.lists.proofs.Truth.{isT, same-test, all-cons, all-first, all-rest, and-both}
 use Rattle.lists.proofs.Totals.{total-length}
 use Rattle.rows.specs.Rows.{Row, Rows, sameRow, notAfter, rising, putRows, hasRow, hasRows, takeRow, takeRows}
 use Rattle.rows.specs.Ranks.{times}
@@ -102,10 +102,10 @@ length-takes xs rows h = ap₂ _+_ (sym (total-length xs)) (sym (total-length (t
 -- Rows taken by a test: those that fail it stay
 all-select : (q p : Row → Bool) (rows : Rows) → T (all q rows) → T (all q (select p rows))
 all-select q p [] h = h
-all-select q p (r ∷ rows) h = go (p r) (all-select q p rows (and-snd (q r) (all q rows) h))
+all-select q p (r ∷ rows) h = go (p r) (all-select q p rows (all-rest q r rows h))
   where
     go : (b : Bool) → T (all q (select p rows)) → T (all q (cond b (r ∷ select p rows) (select p rows)))
-    go true ih = and-both (q r) (all q (select p rows)) (and-fst (q r) (all q rows) h) ih
+    go true ih = all-cons q r (select p rows) (all-first q r rows h) ih
     go false ih = ih
 
 pub rising-select : (p : Row → Bool) (rows : Rows) → T (rising rows) → T (rising (select p rows))
