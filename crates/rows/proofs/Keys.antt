@@ -12,7 +12,8 @@ use lib.Seq.{map-set-same}
 use Rattle.lists.specs.Lists.{all, any, select, rises}
 use Rattle.lists.proofs.Totals.{total-cons, total-set}
 use Rattle.lists.proofs.Rises.{rises-at}
-use Rattle.lists.proofs.Truth.{Mem, F→not, not→F, same-test, and-fst, and-snd, and-both, all-get, all-make, any-get, any-make, mem-map, map-mem, mem-getD, eq→eqb, eqb→≡}
+use Rattle.lists.proofs.Truth.{Mem, F→not, not→F, same-test, and-fst, and-snd, and-both, all-get, all-make, any-get, any-make, mem-map, map-mem, mem-getD}
+use Rattle.lists.proofs.Truth.{eq→eqb, eqb→≡}
 use Rattle.rows.specs.Rows.{Row, Rows, key, rowOrder, thenBy, isLess, smaller, notAfter, rising, putRow, takeRow, hasKey, noKeyTwice}
 use Rattle.rows.specs.Ranks.{rankKey}
 use Rattle.rows.specs.Regions.{keysRise}
@@ -33,9 +34,10 @@ unfolding keysRise rising
 up-once [] h = tt
 up-once (r ∷ rows) h =
     let rest = up-once rows (and-snd (all (keyLess r) rows) (keysRise rows) h) in
-    and-both (rising (r ∷ rows)) (noKeyTwice (r ∷ rows))
-    (rising-cons r rows (all-make (notAfter r) rows (λ s m. false-after r s (smaller-once r s (key-smaller r s (above s m))))) (and-fst (rising rows) (noKeyTwice rows) rest))
-    (and-both (not (any (eqb (key r)) (map key rows))) (noKeyTwice rows) (F→not (any (eqb (key r)) (map key rows)) (λ a. none (any-get (eqb (key r)) (map key rows) a))) (and-snd (rising rows) (noKeyTwice rows) rest))
+    let up = all-make (notAfter r) rows (λ s m. false-after r s (smaller-once r s (key-smaller r s (above s m)))) in
+    let new = F→not (any (eqb (key r)) (map key rows)) (λ a. none (any-get (eqb (key r)) (map key rows) a)) in
+    and-both (rising (r ∷ rows)) (noKeyTwice (r ∷ rows)) (rising-cons r rows up (and-fst (rising rows) (noKeyTwice rows) rest))
+    (and-both (not (any (eqb (key r)) (map key rows))) (noKeyTwice rows) new (and-snd (rising rows) (noKeyTwice rows) rest))
   where
     first : T (all (keyLess r) rows)
     first = and-fst (all (keyLess r) rows) (keysRise rows) h
@@ -52,7 +54,8 @@ once-up : (rows : Rows) → T (rising rows) → T (noKeyTwice rows) → T (keysR
 unfolding keysRise
 once-up [] u h = tt
 once-up (r ∷ rows) u h =
-    and-both (all (keyLess r) rows) (keysRise rows) (all-make (keyLess r) rows above) (once-up rows (rising-rest r rows u) (and-snd (not (any (eqb (key r)) (map key rows))) (noKeyTwice rows) h))
+    and-both (all (keyLess r) rows) (keysRise rows) (all-make (keyLess r) rows above)
+    (once-up rows (rising-rest r rows u) (and-snd (not (any (eqb (key r)) (map key rows))) (noKeyTwice rows) h))
   where
     new : T (any (eqb (key r)) (map key rows)) → ⊥
     new = not→F (any (eqb (key r)) (map key rows)) (and-fst (not (any (eqb (key r)) (map key rows))) (noKeyTwice rows) h)
@@ -64,7 +67,9 @@ once-up (r ∷ rows) u h =
         lt→ltb (key r) (key s) (omega arith)
 
 pub keys-rise : (rows : Rows) → keysRise rows ≡ (rising rows && noKeyTwice rows)
-keys-rise rows = same-test (keysRise rows) (rising rows && noKeyTwice rows) (up-once rows) (λ h. once-up rows (and-fst (rising rows) (noKeyTwice rows) h) (and-snd (rising rows) (noKeyTwice rows) h))
+keys-rise rows =
+    same-test (keysRise rows) (rising rows && noKeyTwice rows) (up-once rows)
+    (λ h. once-up rows (and-fst (rising rows) (noKeyTwice rows) h) (and-snd (rising rows) (noKeyTwice rows) h))
 
 -- a selection that none passes
 pub select-none : (p : Row → Bool) (rows : Rows) → any p rows ≡ false → select p rows ≡ []
@@ -111,16 +116,20 @@ pub record Replaced (old new : Row) (rows : Rows) (i : ℕ) : Type 0 where
   pub once : T (noKeyTwice (set rows i new))
   pub is : putRow new (takeRow old rows) ≡ set rows i new
 
-pub replace-side : (old new : Row) (rows : Rows) (i : ℕ) → T (rising rows) → T (noKeyTwice rows) → There old rows i → key new ≡ key old → Replaced old new rows i
+pub replace-side : (old new : Row) (rows : Rows) (i : ℕ) → T (rising rows) → T (noKeyTwice rows) → There old rows i → key new ≡ key old
+    → Replaced old new rows i
 replace-side old new rows i u once t e =
     let keys : map key (set rows i new) ≡ map key rows = map-set-same key rows i new [] (e ∙ ap key (sym (t .there))) in
-    let k : T (keysRise (set rows i new)) = subst T (keys-numbers rows ∙ ap (rises ltb) (sym keys) ∙ sym (keys-numbers (set rows i new))) (once-up rows u once) in
-    let both : T (rising (set rows i new) && noKeyTwice (set rows i new)) = up-once (set rows i new) k in
+    let still : keysRise rows ≡ keysRise (set rows i new) = keys-numbers rows ∙ ap (rises ltb) (sym keys) ∙ sym (keys-numbers (set rows i new)) in
+    let both : T (rising (set rows i new) && noKeyTwice (set rows i new)) = up-once (set rows i new) (subst T still (once-up rows u once)) in
     let up : T (rising (set rows i new)) = and-fst (rising (set rows i new)) (noKeyTwice (set rows i new)) both in
     record {
       up = up;
       once = and-snd (rising (set rows i new)) (noKeyTwice (set rows i new)) both;
       is =
           same-rising (putRow new (takeRow old rows)) (set rows i new) (rising-put new (takeRow old rows) (rising-take old rows u)) up (λ f.
-          omega (arith, total-put f new (takeRow old rows), same-take old rows (t .has) f, total-cons f old (takeRow old rows), total-set [] f rows i new (t .below), ap f (t .there)));
+          let put = total-put f new (takeRow old rows) in
+          let out = same-take old rows (t .has) f ∙ total-cons f old (takeRow old rows) in
+          let over = total-set [] f rows i new (t .below) in
+          omega (arith, ap f (t .there)));
     }

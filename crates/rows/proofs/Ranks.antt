@@ -21,7 +21,8 @@ use Rattle.rows.specs.declared.Found.the-variants.{At, Missing}
 use Rattle.rows.specs.Rows.{Row, Rows, key, cut, rowOrder, smaller, sameRow, notAfter, rising, hasRow, hasKey}
 use Rattle.rows.specs.Ranks.{rank, rankAfter, times, rankKey, foundRow, foundKey}
 use Rattle.rows.specs.Words.{row}
-use Rattle.rows.proofs.Ordered.{itself, same→≡, ≡→same, order-same, order-less-differs, order-greater-differs, order-equal, smaller-itself, neither-smaller, after-false, smaller-once, less-smaller, greater-smaller, less-not-smaller, equal-not-smaller}
+use Rattle.rows.proofs.Ordered.{itself, same→≡, ≡→same, order-same, order-less-differs, order-greater-differs, order-equal, smaller-itself}
+use Rattle.rows.proofs.Ordered.{neither-smaller, after-false, smaller-once, less-smaller, greater-smaller, less-not-smaller, equal-not-smaller}
 use Rattle.rows.proofs.Cut.{cut-length, cut-at}
 use Rattle.rows.proofs.Search.{rising-at, key-up, smaller-falls, not-after-falls, key-falls, passed-below, passed-above, failed-from, row-key}
 
@@ -100,8 +101,9 @@ module _ (r : Row) (rows : Rows) (u : T (rising rows)) where
       below : (b : Bool) → ltb j (rankAfter r rows) ≡ b → j < rankAfter r rows
       below true g = ltb-true j (rankAfter r rows) g
       below false g =
-          let a : notAfter (getD rows j []) r ≡ false = passed-above (λ q. notAfter q r) rows (not-after-falls rows u r) j (ltb-false j (rankAfter r rows) g) m in
-          absurd (false→F (sym (ap (λ (q : Row). notAfter q r) e) ∙ a) (itself r))
+          let l : rankAfter r rows ≤ j = ltb-false j (rankAfter r rows) g in
+          let a : notAfter (getD rows j []) r ≡ false = passed-above (λ q. notAfter q r) rows (not-after-falls rows u r) j l m in
+          absurd (false→F (rw e at a) (itself r))
 
   pub rank-at : T (hasRow r rows) → (rank r rows < length rows) × (getD rows (rank r rows) [] ≡ r)
   unfolding rank
@@ -109,15 +111,17 @@ module _ (r : Row) (rows : Rows) (u : T (rising rows)) where
       let later = behind-passed (λ q. smaller q r) rows (smaller-falls rows u r) (sameRow r) (λ q k. rw (← same→≡ r q k) (smaller-itself r)) h in
       let lt : rank r rows < length rows = omega (arith, later .1, later .2) in
       let first : Row = getD rows (rank r rows) [] in
+      let is : r ≡ getD rows (later .0) [] = same→≡ r (getD rows (later .0) []) (later .3) in
       let a : smaller first r ≡ false = passed-above (λ q. smaller q r) rows (smaller-falls rows u r) (rank r rows) (omega arith) lt in
-      let b : T (notAfter first r) = rw (← same→≡ r (getD rows (later .0) []) (later .3)) at (rising-at rows u (rank r rows) (later .0) (later .1) (later .2)) in
+      let b : T (notAfter first r) = rw (← is) at (rising-at rows u (rank r rows) (later .0) (later .1) (later .2)) in
       (lt, neither-smaller first r a (after-false first r b))
 
 -- the same of a key
 pub rankKey-at : (k : ℕ) (rows : Rows) → T (rising rows) → T (hasKey k rows) → (rankKey k rows < length rows) × (key (getD rows (rankKey k rows) []) ≡ k)
 unfolding rankKey
 rankKey-at k rows u h =
-    let later = behind-passed (λ q. ltb (key q) k) rows (key-falls rows u k) (λ q. eqb k (key q)) (λ q e. le-ltb (key q) k (omega (arith, eqb→≡ k (key q) e))) h in
+    let fails : (q : Row) → T (eqb k (key q)) → ltb (key q) k ≡ false = λ q e. le-ltb (key q) k (omega (arith, eqb→≡ k (key q) e)) in
+    let later = behind-passed (λ q. ltb (key q) k) rows (key-falls rows u k) (λ q. eqb k (key q)) fails h in
     let lt : rankKey k rows < length rows = omega (arith, later .1, later .2) in
     let first : Row = getD rows (rankKey k rows) [] in
     let last : Row = getD rows (later .0) [] in
@@ -129,8 +133,8 @@ rankKey-at k rows u h =
 found-yes : (r : Row) (rows : Rows) (k : ℕ) → k ≡ rank r rows → k < length rows → getD rows k [] ≡ r → At k ≡ foundRow r rows
 unfolding foundRow
 found-yes r rows k e l q =
-    let h : hasRow r rows ≡ true = T→≡ (hasRow r rows) (any-make (sameRow r) rows (getD rows k []) (mem-getD [] rows k l) (≡→same r (getD rows k []) (sym q))) in
-    rw h (ap At e)
+    let has : T (hasRow r rows) = any-make (sameRow r) rows (getD rows k []) (mem-getD [] rows k l) (≡→same r (getD rows k []) (sym q)) in
+    rw (T→≡ (hasRow r rows) has) (ap At e)
 
 found-no : (r : Row) (rows : Rows) (k : ℕ) → T (rising rows) → k ≡ rank r rows → (k < length rows → getD rows k [] ≡ r → ⊥) → Missing ≡ foundRow r rows
 unfolding foundRow

@@ -18,7 +18,8 @@ use Rattle.rows.specs.declared.Order.the-variants.{Less, Equal, Greater}
 use Rattle.rows.specs.Rows.{Row, Rows, key, cut, rowOrder, thenBy, isLess, smaller, notAfter, rising}
 use Rattle.rows.specs.Ranks.{rank, rankAfter, rankKey}
 use Rattle.rows.specs.Words.{row}
-use Rattle.rows.proofs.Ordered.{Compared, lt, eq, gt, compared, word-less, order-equal, less-smaller, greater-smaller, less-not-smaller, equal-not-smaller, smaller-once, itself, smaller-after, smaller-itself, after-false, false-after, chain}
+use Rattle.rows.proofs.Ordered.{Compared, lt, eq, gt, compared, word-less, order-equal, less-smaller, greater-smaller, less-not-smaller}
+use Rattle.rows.proofs.Ordered.{equal-not-smaller, smaller-once, itself, smaller-after, smaller-itself, after-false, false-after, chain}
 use Rattle.rows.proofs.Sorted.{rising-first, rising-rest}
 use Rattle.rows.proofs.Cut.{cut-length, cut-at, row-at}
 

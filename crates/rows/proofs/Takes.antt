@@ -30,7 +30,8 @@ times-take q r (s ∷ rows) = go (sameRow r s) refl (times-take q r rows)
     go true e ih = let same : one (sameRow q s) ≡ one (sameRow q r) = ap (λ x. one (sameRow q x)) (sym (same→≡ r s (isT e))) in omega arith
     go false e ih = other (sameRow q r) refl ih
       where
-        other : (c : Bool) → sameRow q r ≡ c → times q (takeRow r rows) ≡ times q rows - one c → one (sameRow q s) + times q (takeRow r rows) ≡ one (sameRow q s) + times q rows - one c
+        other : (c : Bool) → sameRow q r ≡ c → times q (takeRow r rows) ≡ times q rows - one c
+            → one (sameRow q s) + times q (takeRow r rows) ≡ one (sameRow q s) + times q rows - one c
         other true g ih = let d : one (sameRow q s) ≡ 0 = ap one (ap (λ x. sameRow x s) (same→≡ q r (isT g)) ∙ e) in omega arith
         other false g ih = omega arith
 
@@ -78,7 +79,7 @@ takes-snoc (x ∷ xs) r rows = takes-snoc xs r (takeRow x rows)
 pub has-append : (xs ys rows : Rows) → hasRows (xs ++ ys) rows ≡ (hasRows xs rows && hasRows ys (takeRows xs rows))
 unfolding takeRows hasRows
 has-append [] ys rows = refl
-has-append (x ∷ xs) ys rows = ap (λ b. hasRow x rows && b) (has-append xs ys (takeRow x rows)) ∙ assoc (hasRow x rows) (hasRows xs (takeRow x rows)) (hasRows ys (takeRows xs (takeRow x rows)))
+has-append (x ∷ xs) ys rows = ap (λ b. hasRow x rows && b) (has-append xs ys (takeRow x rows)) ∙ assoc (hasRow x rows) _ _
   where
     assoc : (a b c : Bool) → (a && (b && c)) ≡ ((a && b) && c)
     assoc true b c = refl
@@ -121,8 +122,11 @@ unfolding total
 two-parts f p [] = refl
 two-parts f p (r ∷ rows) = go (p r) (two-parts f p rows)
   where
-    go : (b : Bool) → total f rows ≡ total f (select p rows) + total f (select (λ r. not (p r)) rows)
-        → f r + total f rows ≡ total f (cond b (r ∷ select p rows) (select p rows)) + total f (cond (not b) (r ∷ select (λ r. not (p r)) rows) (select (λ r. not (p r)) rows))
+    rest : Rows
+    rest = select (λ r. not (p r)) rows
+
+    go : (b : Bool) → total f rows ≡ total f (select p rows) + total f rest
+        → f r + total f rows ≡ total f (cond b (r ∷ select p rows) (select p rows)) + total f (cond (not b) (r ∷ rest) rest)
     go true ih = omega arith
     go false ih = omega arith
 
