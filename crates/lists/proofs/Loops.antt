@@ -10,6 +10,7 @@ use native.Mathlib.Nat.{eq-or-lt-of-le, le-antisymm}
 use native.Mathlib.Omega.{arith}
 use lib.ListN.{length, getD, set, length-set}
 use lib.Seq.{getD-set-same, getD-set-other}
+use Rattle.lists.proofs.Truth.{and-false}
 use Rattle.lists.specs.Loops.{every, some, first, filled}
 
 split : (i n : ℕ) → i < suc n → (i ≡ n) ⊎ (i < n)
@@ -33,10 +34,6 @@ every-fails t i zero h e = absurd (omega arith)
 every-fails t i (suc n) h e =
     ⊎-elim (λ q. last q) (λ l. rw (every-fails t i n l e)) (split i n h)
   where
-    and-false : (b : Bool) → (b && false) ≡ false
-    and-false true = refl
-    and-false false = refl
-
     last : i ≡ n → (every t n && t n) ≡ false
     last q = ap (λ b. every t n && b) (rw (← q) e) ∙ and-false (every t n)
 

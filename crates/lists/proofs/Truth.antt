@@ -70,6 +70,10 @@ pub and-both : (a b : Bool) → T a → T b → T (a && b)
 and-both true b h k = k
 and-both false b h k = h
 
+pub and-false : (b : Bool) → (b && false) ≡ false
+and-false true = refl
+and-false false = refl
+
 -- a choice by a test that is known
 pub cond-true : {A : Type 0} (b : Bool) (x y : A) → T b → cond b x y ≡ x
 cond-true true x y h = refl

@@ -10,7 +10,7 @@ use lib.ListN.{length}
 use borrow.Author.Tests.{lt-ltb}
 use Rattle.lists.specs.Lists.{Words, at, all, any, select}
 use Rattle.lists.specs.Totals.{total, one, Same}
-use Rattle.lists.proofs.Truth.{isT, same-test, all-cons, all-first, all-rest, and-both}
+use Rattle.lists.proofs.Truth.{isT, same-test, and-false, all-cons, all-first, all-rest, and-both}
 use Rattle.lists.proofs.Totals.{total-length}
 use Rattle.rows.specs.Rows.{Row, Rows, sameRow, notAfter, rising, putRows, hasRow, hasRows, takeRow, takeRows}
 use Rattle.rows.specs.Ranks.{times}
@@ -160,7 +160,3 @@ unfolding hasRows
 taken-fails done r rest rows old new t m =
     let left : false ≡ hasRow r (takeRows done rows) = m .left ∙ ap (hasRow r) (t .stay) in
     has-append done (r ∷ rest) rows ∙ rw (← left) (and-false (hasRows done rows))
-  where
-    and-false : (b : Bool) → (b && false) ≡ false
-    and-false true = refl
-    and-false false = refl
