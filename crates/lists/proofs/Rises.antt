@@ -1,9 +1,11 @@
 -- Lists in rising order by any test `le` ("is not after"): put together, taken apart, read at two places, one element more.
 -- Assumes nothing.
-use Prim.Native.Nat.{ℕ, zero, suc, _<_}
+use Prim.Native.Nat.{ℕ, zero, suc, _<_, _≤_}
+use mathlib.Core.Path.{_≡_}
 use mathlib.Core.Bool.{Bool}
 use mathlib.Core.List.{List, [], _∷_, _++_}
-use native.Mathlib.Nat.{not-suc-le-zero, le-of-suc-le-suc}
+use mathlib.Core.Logic.{_⊎_, inl, inr}
+use native.Mathlib.Nat.{not-suc-le-zero, le-of-suc-le-suc, eq-or-lt-of-le}
 use native.Mathlib.Omega.{arith}
 use lib.Dec.{T}
 use lib.ListN.{length, getD}
@@ -32,6 +34,13 @@ module _ {A : Type 0} (le : A → A → Bool) where
   rises-at d (x ∷ xs) h i zero a b = absurd (not-suc-le-zero a)
   rises-at d (x ∷ xs) h zero (suc j) a b = all-at (le x) d xs (rises-first x xs h) j (le-of-suc-le-suc b)
   rises-at d (x ∷ xs) h (suc i) (suc j) a b = rises-at d xs (rises-rest x xs h) i j (le-of-suc-le-suc a) (le-of-suc-le-suc b)
+
+  pub rises-to : ((x : A) → T (le x x)) → (d : A) (xs : List A) → T (rises le xs) → (i j : ℕ) → i ≤ j → j < length xs → T (le (getD xs i d) (getD xs j d))
+  rises-to itself d xs h i j a b = go (eq-or-lt-of-le a)
+    where
+      go : (i ≡ j) ⊎ (i < j) → T (le (getD xs i d) (getD xs j d))
+      go (inl e) = rw e (itself (getD xs j d))
+      go (inr l) = rises-at d xs h i j l b
 
   all-snoc : (p : A → Bool) (xs : List A) (y : A) → T (all p xs) → T (p y) → T (all p (xs ++ (y ∷ [])))
   all-snoc p [] y h k = all-cons p y [] k tt

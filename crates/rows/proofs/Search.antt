@@ -1,17 +1,18 @@
 -- Binary search among rows, for any test that is passed up to some row and by none after it.
 -- Assumes nothing.
-use Prim.Native.Nat.{ℕ, zero, suc, _+_, _*_, _<_, _≤_, zero-le}
+use Prim.Native.Nat.{ℕ, _+_, _*_, _<_, _≤_, zero-le}
 use mathlib.Core.Path.{_≡_, refl, sym, ap, _∙_, subst}
 use mathlib.Core.Bool.{Bool, true, false, cond, not, true≢false}
 use mathlib.Core.List.{[], _∷_}
-use native.Mathlib.Nat.{not-suc-le-zero, le-of-suc-le-suc, add-zero}
+use native.Mathlib.Nat.{add-zero}
 use native.Mathlib.Omega.{arith}
 use lib.Dec.{T, ltb}
 use lib.ListN.{length, getD}
 use borrow.Author.Tests.{ltb-true, ltb-false, lt-ltb, le-ltb}
 use Rattle.lists.specs.Lists.{Words, at}
 use Rattle.lists.specs.Totals.{total, one}
-use Rattle.lists.proofs.Truth.{isT, T→≡, all-get, mem-getD}
+use Rattle.lists.proofs.Truth.{isT, T→≡}
+use Rattle.lists.proofs.Rises.{rises-to}
 use Rattle.lists.proofs.Search.{Falls, Bracket, bracket-up, bracket-down, bracket-end, counted}
 use Rattle.rows.specs.declared.Order.{Order}
 use Rattle.rows.specs.declared.Order.the-variants.{Less, Equal, Greater}
@@ -19,17 +20,13 @@ use Rattle.rows.specs.Rows.{Row, Rows, key, cut, rowOrder, thenBy, isLes
 use Rattle.rows.specs.Ranks.{rank, rankAfter, rankKey}
 use Rattle.rows.specs.Words.{row}
 use Rattle.rows.proofs.Ordered.{Compared, lt, eq, gt, compared, word-less, order-equal, less-smaller, greater-smaller, less-not-smaller}
-use Rattle.rows.proofs.Ordered.{equal-not-smaller, smaller-once, itself, smaller-after, smaller-itself, after-false, false-after, chain}
-use Rattle.rows.proofs.Sorted.{rising-first, rising-rest}
+use Rattle.rows.proofs.Ordered.{equal-not-smaller, smaller-once, itself, smaller-after, after-false, false-after, chain}
 use Rattle.rows.proofs.Cut.{cut-length, cut-at, row-at}
+use Rattle.rows.proofs.Pairs.{rising-is}
 
 -- row i of rising rows is not after row j
 pub rising-at : (rows : Rows) → T (rising rows) → (i j : ℕ) → i ≤ j → j < length rows → T (notAfter (getD rows i []) (getD rows j []))
-rising-at [] u i j h l = absurd (not-suc-le-zero l)
-rising-at (r ∷ rows) u zero zero h l = false-after r r (smaller-itself r)
-rising-at (r ∷ rows) u zero (suc j) h l = all-get (notAfter r) rows (rising-first r rows u) (getD rows j []) (mem-getD [] rows j (le-of-suc-le-suc l))
-rising-at (r ∷ rows) u (suc i) zero h l = absurd (not-suc-le-zero h)
-rising-at (r ∷ rows) u (suc i) (suc j) h l = rising-at rows (rising-rest r rows u) i j (le-of-suc-le-suc h) (le-of-suc-le-suc l)
+rising-at rows u i j h l = rises-to notAfter itself [] rows (subst T (rising-is rows) u) i j h l
 
 -- the keys of rising rows rise
 pub key-up : (r s : Row) → T (notAfter r s) → key r ≤ key s
