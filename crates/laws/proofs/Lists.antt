@@ -148,7 +148,3 @@ length-flat-map f g h (k ∷ ks) = length-append (f k) (flat (map f ks)) ∙ ap�
 pub zeros : (k : ℕ) → T (all (eqb 0) (replicate k 0))
 zeros zero = tt
 zeros (suc k) = zeros k
-
-pub zeros-are : (ws : Words) → T (all (eqb 0) ws) → ws ≡ replicate (length ws) 0
-zeros-are [] h = refl
-zeros-are (x ∷ ws) h = ap₂ _∷_ (sym (eqb→≡ 0 x (and-fst (eqb 0 x) (all (eqb 0) ws) h))) (zeros-are ws (and-snd (eqb 0 x) (all (eqb 0) ws) h))

@@ -13,8 +13,8 @@ use borrow.Author.Tests.{eq-eqb, ne-eqb}
 use Rattle.lists.specs.Lists.{Words, at, flat}
 use Rattle.rows.specs.Rows.{Row, Rows, cut}
 use Rattle.rows.specs.Words.{row, written}
-use Rattle.rows.proofs.Cut.{Wide, wide-first, wide-rest, wide-cons, wide-cut, length-flat, cut-length, row-length}
-use Rattle.rows.proofs.Marks.{flat-append, cut-snoc}
+use Rattle.rows.proofs.Cut.{Wide, wide-first, wide-rest, wide-cons, wide-cut, length-flat, cut-length, row-length, cut-snoc}
+use Rattle.lists.proofs.Places.{flat-append}
 use Rattle.meaning.specs.Sheet.{listedCount}
 use Rattle.walks.specs.Marks.{altered, isMarked}
 use Rattle.walks.proofs.Marks.{length-altered}

@@ -3,3 +3,5 @@ pub mod Places
 pub mod Totals
 pub mod Loops
 pub mod Parts
+pub mod Rises
+pub mod Search

@@ -2,7 +2,7 @@
 -- Assumes nothing.
 use Prim.Native.Nat.{ℕ, zero, suc, _+_, _≤_, _<_}
 use mathlib.Core.Path.{_≡_, refl, sym, ap, subst, _∙_}
-use mathlib.Core.Bool.{Bool, true, false, cond, _&&_, _||_}
+use mathlib.Core.Bool.{Bool, true, false, _&&_, _||_}
 use mathlib.Core.List.{List}
 use mathlib.Core.Logic.{_⊎_, ⊎-elim}
 use native.Mathlib.Numerals.{add-one}
@@ -10,6 +10,7 @@ use native.Mathlib.Nat.{eq-or-lt-of-le, le-antisymm}
 use native.Mathlib.Omega.{arith}
 use lib.ListN.{length, getD, set, length-set}
 use lib.Seq.{getD-set-same, getD-set-other}
+use Rattle.lists.proofs.Truth.{and-false}
 use Rattle.lists.specs.Loops.{every, some, first, filled}
 
 split : (i n : ℕ) → i < suc n → (i ≡ n) ⊎ (i < n)
@@ -33,10 +34,6 @@ every-fails t i zero h e = absurd (omega arith)
 every-fails t i (suc n) h e =
     ⊎-elim (λ q. last q) (λ l. rw (every-fails t i n l e)) (split i n h)
   where
-    and-false : (b : Bool) → (b && false) ≡ false
-    and-false true = refl
-    and-false false = refl
-
     last : i ≡ n → (every t n && t n) ≡ false
     last q = ap (λ b. every t n && b) (rw (← q) e) ∙ and-false (every t n)
 
@@ -88,19 +85,10 @@ first-end t k n a b h = first-none t n (subst (λ (m : ℕ). some t m ≡ false)
 pub every-at : (t : ℕ → Bool) (i n : ℕ) → i < n → every t n ≡ true → t i ≡ true
 unfolding every
 every-at t i zero l h = absurd (omega arith)
-every-at t i (suc n) l h = ⊎-elim (λ q. here q) (λ m. every-at t i n m (left (every t n) (t n) h)) (split i n l)
+every-at t i (suc n) l h = ⊎-elim (λ q. rw q (both .1)) (λ m. every-at t i n m (both .0)) (split i n l)
   where
-    left : (a b : Bool) → (a && b) ≡ true → a ≡ true
-    left true b e = refl
-    left false b e = e
-
-    right : (a b : Bool) → (a && b) ≡ true → b ≡ true
-    right true b e = e
-    right false true e = refl
-    right false false e = e
-
-    here : i ≡ n → t i ≡ true
-    here q = rw q (right (every t n) (t n) h)
+    both : (every t n ≡ true) × (t n ≡ true)
+    both = and-true (every t n) (t n) h
 
 -- a test that cannot be true is false
 pub no : (b : Bool) → (b ≡ true → ⊥) → false ≡ b

@@ -1,17 +1,17 @@
--- Places in lists: the elements of a mapped run of numbers, blocks laid end to end, and one element set.
+-- Places in lists: the elements of a mapped run of numbers, and blocks laid end to end.
 -- Assumes nothing.
 use Prim.Native.Nat.{ℕ, zero, suc, _+_, _<_}
-use mathlib.Core.Path.{_≡_, refl, sym, ap, ap₂, _∙_, subst}
+use mathlib.Core.Path.{_≡_, refl, sym, ap, _∙_, subst}
 use mathlib.Core.List.{List, [], _∷_, _++_, map}
+pub use mathlib.Core.List.{append-assoc}
 use native.Mathlib.Nat.{add-zero, add-suc, suc-add, le-of-suc-le-suc, not-suc-le-zero}
-use native.Mathlib.Omega.{arith}
-use lib.ListN.{length, getD, take, drop, set}
-use lib.Seq.{drop-append-add, take-at, ext-getD}
+use lib.ListN.{length, getD, take, drop}
+use lib.Seq.{drop-append-add, take-at}
 use Rattle.lists.specs.Lists.{from, upTo, sum, flat}
 
-pub append-assoc : {A : Type 0} (xs ys zs : List A) → (xs ++ ys) ++ zs ≡ xs ++ (ys ++ zs)
-append-assoc [] ys zs = refl
-append-assoc (x ∷ xs) ys zs = ap (λ l. x ∷ l) (append-assoc xs ys zs)
+pub flat-append : {A : Type 0} (xss yss : List (List A)) → flat (xss ++ yss) ≡ flat xss ++ flat yss
+flat-append [] yss = refl
+flat-append (xs ∷ xss) yss = ap (λ l. xs ++ l) (flat-append xss yss) ∙ sym (append-assoc xs (flat xss) (flat yss))
 
 pub length-from : (i k : ℕ) → length (from i k) ≡ k
 length-from i zero = refl
@@ -30,16 +30,6 @@ map-from-suc f (suc n) i = ap (λ l. f (suc i) ∷ l) (map-from-suc f n (suc i))
 pub map-getD : {A : Type 0} (d : A) (xs ys : List A) → map (λ t. getD (xs ++ ys) t d) (upTo (length xs)) ≡ xs
 map-getD d [] ys = refl
 map-getD d (x ∷ xs) ys = ap (λ l. x ∷ l) (map-from-suc (λ t. getD (x ∷ (xs ++ ys)) t d) (length xs) 0 ∙ map-getD d xs ys)
-
--- two lists that differ only at R, set there alike
-pub set-alike : {A : Type 0} (d : A) (L M : List A) (R : ℕ) (a : A) → length L ≡ length M
-    → ((u : ℕ) → u < length M → (u ≡ R → ⊥) → getD L u d ≡ getD M u d) → set L R a ≡ set M R a
-set-alike d [] [] R a l h = refl
-set-alike d [] (y ∷ M) R a l h = absurd (omega arith)
-set-alike d (x ∷ L) [] R a l h = absurd (omega arith)
-set-alike d (x ∷ L) (y ∷ M) zero a l h = ap (λ k. a ∷ k) (ext-getD d L M (omega arith) (λ u k. h (suc u) (omega arith) (λ q. omega arith)))
-set-alike d (x ∷ L) (y ∷ M) (suc R) a l h =
-    ap₂ _∷_ (h 0 (omega arith) (λ q. omega arith)) (set-alike d L M R a (omega arith) (λ u k n. h (suc u) (omega arith) (λ q. n (omega arith))))
 
 -- block k of blocks f i, f (i + 1), .., each as long as g says
 pub block : (f : ℕ → List ℕ) (g : ℕ → ℕ) → ((j : ℕ) → length (f j) ≡ g j) → (n i k : ℕ) → k < n

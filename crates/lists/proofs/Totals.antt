@@ -5,10 +5,10 @@ use mathlib.Core.Path.{_≡_, refl, sym, ap, ap₂, _∙_, fun-ext}
 use mathlib.Core.Bool.{Bool, true, false, cond, not, _&&_, _||_}
 use mathlib.Core.List.{List, [], _∷_, _++_, map}
 use mathlib.Core.Logic.{inl, inr}
-use native.Mathlib.Nat.{add-zero, zero-add, le-of-suc-le-suc, not-suc-le-zero, add-assoc}
+use native.Mathlib.Nat.{zero-add, add-assoc, not-suc-le-zero, le-of-suc-le-suc}
 use native.Mathlib.Omega.{arith}
-use lib.Dec.{ltb}
-use lib.ListN.{length, set}
+use lib.Dec.{T, ltb}
+use lib.ListN.{length, getD, set}
 use borrow.Author.Tests.{lt-ltb}
 use Rattle.lists.specs.Lists.{all, any, select, flat, choices}
 use Rattle.lists.specs.Totals.{total, one, Same}
@@ -44,20 +44,6 @@ pub total-sum : {A : Type 0} (f g : A → ℕ) (xs : List A) → total (λ x. f 
 unfolding total
 total-sum f g [] = refl
 total-sum f g (x ∷ xs) = ap (λ k. f x + g x + k) (total-sum f g xs) ∙ omega arith
-
--- one row more in table t: the ways that take it, and the ways as before
-pub one-more : {A : Type 0} (f : List A → ℕ) (base : List (List A)) (t : ℕ) (r : A) (rows : List A) → t < length base
-    → total f (choices (set base t (r ∷ rows))) ≡ total f (choices (set base t (r ∷ []))) + total f (choices (set base t rows))
-unfolding total
-one-more f [] t r rows h = absurd (not-suc-le-zero h)
-one-more f (xs ∷ base) zero r rows h =
-    total-choices f (r ∷ rows) base
-    ∙ ap₂ _+_ (sym (total-choices f (r ∷ []) base ∙ add-zero (total (λ way. f (r ∷ way)) (choices base)))) (sym (total-choices f rows base))
-one-more f (xs ∷ base) (suc t) r rows h =
-    total-choices f xs (set base t (r ∷ rows))
-    ∙ ap (λ g. total g xs) (fun-ext (λ x. one-more (λ way. f (x ∷ way)) base t r rows (le-of-suc-le-suc h)))
-    ∙ total-sum (λ x. total (λ way. f (x ∷ way)) (choices (set base t (r ∷ [])))) (λ x. total (λ way. f (x ∷ way)) (choices (set base t rows))) xs
-    ∙ ap₂ _+_ (sym (total-choices f xs (set base t (r ∷ [])))) (sym (total-choices f xs (set base t rows)))
 
 pub total-select : {A : Type 0} (f : A → ℕ) (p : A → Bool) (xs : List A) → total f (select p xs) ≡ total (λ x. cond (p x) (f x) 0) xs
 unfolding total
@@ -111,6 +97,9 @@ module _ {A : Type 0} where
           go true e = e
           go false e = refl
 
+  pub same-all : (p : A → Bool) (xs ys : List A) → Same xs ys → T (all p ys) → T (all p xs)
+  same-all p xs ys e h = rw (all-of p xs ys e) h
+
   pub same-sym : (xs ys : List A) → Same xs ys → Same ys xs
   same-sym xs ys h f = sym (h f)
 
@@ -124,6 +113,13 @@ module _ {A : Type 0} where
 
   pub same-length : (xs ys : List A) → Same xs ys → length xs ≡ length ys
   same-length xs ys h = sym (total-length xs) ∙ h (λ x. 1) ∙ total-length ys
+
+  -- one element set
+  pub total-set : (d : A) (f : A → ℕ) (xs : List A) (i : ℕ) (a : A) → i < length xs → total f (set xs i a) + f (getD xs i d) ≡ total f xs + f a
+  unfolding total
+  total-set d f [] i a h = absurd (not-suc-le-zero h)
+  total-set d f (x ∷ xs) zero a h = omega arith
+  total-set d f (x ∷ xs) (suc i) a h = omega (arith, total-set d f xs i a (le-of-suc-le-suc h))
 
 module _ {A B : Type 0} where
   pub same-map : (g : A → B) (xs ys : List A) → Same xs ys → Same (map g xs) (map g ys)

@@ -70,6 +70,10 @@ pub and-both : (a b : Bool) → T a → T b → T (a && b)
 and-both true b h k = k
 and-both false b h k = h
 
+pub and-false : (b : Bool) → (b && false) ≡ false
+and-false true = refl
+and-false false = refl
+
 -- a choice by a test that is known
 pub cond-true : {A : Type 0} (b : Bool) (x y : A) → T b → cond b x y ≡ x
 cond-true true x y h = refl
@@ -152,6 +156,23 @@ module _ {A : Type 0} where
   mem-getD d [] i h = absurd (not-suc-le-zero h)
   mem-getD d (x ∷ xs) zero h = inl refl
   mem-getD d (x ∷ xs) (suc i) h = inr (mem-getD d xs i (le-of-suc-le-suc h))
+
+  -- a test of all elements: put together, taken apart, read at a place, made from every place
+  pub all-cons : (p : A → Bool) (x : A) (xs : List A) → T (p x) → T (all p xs) → T (all p (x ∷ xs))
+  all-cons p x xs h k = and-both (p x) (all p xs) h k
+
+  pub all-first : (p : A → Bool) (x : A) (xs : List A) → T (all p (x ∷ xs)) → T (p x)
+  all-first p x xs h = and-fst (p x) (all p xs) h
+
+  pub all-rest : (p : A → Bool) (x : A) (xs : List A) → T (all p (x ∷ xs)) → T (all p xs)
+  all-rest p x xs h = and-snd (p x) (all p xs) h
+
+  pub all-at : (p : A → Bool) (d : A) (xs : List A) → T (all p xs) → (i : ℕ) → i < length xs → T (p (getD xs i d))
+  all-at p d xs h i l = all-get p xs h (getD xs i d) (mem-getD d xs i l)
+
+  pub all-from : (p : A → Bool) (d : A) (xs : List A) → ((i : ℕ) → i < length xs → T (p (getD xs i d))) → T (all p xs)
+  all-from p d [] h = tt
+  all-from p d (x ∷ xs) h = all-cons p x xs (h 0 (omega arith)) (all-from p d xs (λ i l. h (suc i) (omega arith)))
 
   -- lists that pass the test of being the same are equal, if elements that pass theirs are
   pub sameLists→≡ : (same : A → A → Bool) → ((x y : A) → T (same x y) → x ≡ y) → (xs ys : List A) → T (sameLists same xs ys) → xs ≡ ys

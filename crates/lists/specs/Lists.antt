@@ -39,6 +39,11 @@ module _ {A : Type 0} where
   noneTwice same [] = true
   noneTwice same (x ∷ xs) = not (any (same x) xs) && noneTwice same xs
 
+  -- no element is after a later one, by the test "is not after"
+  unfoldable pub rises : (A → A → Bool) → List A → Bool
+  rises le [] = true
+  rises le (x ∷ xs) = all (le x) xs && rises le xs
+
   -- two lists of the same elements in the same order
   abbrev pub sameLists : (A → A → Bool) → List A → List A → Bool
   sameLists same [] [] = true

@@ -2,16 +2,16 @@
 -- Assumes nothing.
 use Prim.Native.Nat.{ℕ, zero, suc, _+_, _*_, _<_, _≤_}
 use mathlib.Core.Path.{_≡_, refl, sym, ap, ap₂, _∙_}
-use mathlib.Core.List.{[], _∷_, _++_}
+use mathlib.Core.List.{[], _∷_, _++_, append-assoc}
 use native.Mathlib.Nat.{not-suc-le-zero, le-of-suc-le-suc, zero-add, suc-add, zero-mul, suc-mul, mul-le-mul-right}
 use native.Mathlib.Omega.{arith}
 use lib.Dec.{T, eqb, eqb→eq}
 use lib.ListN.{length, getD, take, drop, length-append, length-take, length-drop, take-append-drop}
 use lib.Seq.{take-at, drop-at, take-append-le, drop-append-le, drop-drop, take-add, length-take-le, getD-take, getD-drop}
 use Rattle.lists.specs.Lists.{Words, at, all, flat}
-use Rattle.lists.proofs.Truth.{eq→eqb, and-fst, and-snd, and-both}
-use Rattle.lists.proofs.Places.{append-assoc}
+use Rattle.lists.proofs.Truth.{eq→eqb, all-cons, all-first, all-rest}
 use Rattle.rows.specs.Rows.{Row, Rows, cut}
+use Rattle.rows.specs.Words.{row}
 
 -- row i of n lies within the words
 pub row-fits : (w n i len : ℕ) → i < n → n * w ≤ len → i * w + w ≤ len
@@ -57,6 +57,11 @@ cut-split w (suc a) b ws =
     let m : w + a * w ≡ suc a * w = omega (arith, suc-mul a w) in
     rw (suc-add, ← m, ← drop-drop (a * w) w ws) (ap (λ (l : Rows). take w ws ∷ l) (cut-split w a b (drop w ws)))
 
+-- one row more
+pub cut-snoc : (w i : ℕ) (s : Words) → cut w (i + 1) s ≡ cut w i s ++ (row w i s ∷ [])
+unfolding cut
+cut-snoc w i s = cut-split w i 1 s
+
 pub take-cut : (w a b : ℕ) (ws : Words) → take a (cut w (a + b) ws) ≡ cut w a ws
 take-cut w a b ws = rw (cut-split, take-at (cut w a ws) (cut w b (drop (a * w) ws)) a (cut-length w a ws))
 
@@ -77,22 +82,18 @@ cut-take w k ws m ys e h =
     let l : k * w ≤ length (take m ws) = simp length-take (omega arith) in
     cut-front w k (take m ws) ys l ∙ sym (cut-front w k (take m ws) (drop m ws) l) ∙ ap (cut w k) (take-append-drop m ws)
 
--- an append: a rows that fill xs, then b rows of ys
-pub cut-append : (w a b : ℕ) (xs ys : Words) → length xs ≡ a * w → cut w (a + b) (xs ++ ys) ≡ cut w a xs ++ cut w b ys
-cut-append w a b xs ys e = rw (cut-split w a b (xs ++ ys), cut-front w a xs ys (omega arith), drop-at xs ys (a * w) e)
-
 -- every row has w columns
 abbrev pub Wide : ℕ → Rows → Type 0
 Wide w rows = T (all (λ r. eqb (length r) w) rows)
 
 pub wide-first : (w : ℕ) (r : Row) (rows : Rows) → Wide w (r ∷ rows) → length r ≡ w
-wide-first w r rows h = eqb→eq (length r) w (and-fst (eqb (length r) w) (all (λ r. eqb (length r) w) rows) h)
+wide-first w r rows h = eqb→eq (length r) w (all-first (λ r. eqb (length r) w) r rows h)
 
 pub wide-rest : (w : ℕ) (r : Row) (rows : Rows) → Wide w (r ∷ rows) → Wide w rows
-wide-rest w r rows h = and-snd (eqb (length r) w) (all (λ r. eqb (length r) w) rows) h
+wide-rest w r rows h = all-rest (λ r. eqb (length r) w) r rows h
 
 pub wide-cons : (w : ℕ) (r : Row) (rows : Rows) → length r ≡ w → Wide w rows → Wide w (r ∷ rows)
-wide-cons w r rows e h = and-both (eqb (length r) w) (all (λ r. eqb (length r) w) rows) (eq→eqb e) h
+wide-cons w r rows e h = all-cons (λ r. eqb (length r) w) r rows (eq→eqb e) h
 
 pub wide-cut : (w k : ℕ) (ws : Words) → k * w ≤ length ws → Wide w (cut w k ws)
 unfolding cut
@@ -121,7 +122,3 @@ flat-cut w zero ws = rw (zero-mul w)
 flat-cut w (suc k) ws =
     let m : suc k * w ≡ w + k * w = omega (arith, suc-mul k w) in
     rw (m, take-add w (k * w) ws) (ap (λ (l : Words). take w ws ++ l) (flat-cut w k (drop w ws)))
-
--- two runs with the same rows agree in the words of these rows
-pub same-cut : (w k : ℕ) (xs ys : Words) → cut w k xs ≡ cut w k ys → take (k * w) xs ≡ take (k * w) ys
-same-cut w k xs ys e = sym (flat-cut w k xs) ∙ ap flat e ∙ flat-cut w k ys

@@ -1,27 +1,27 @@
 -- Keys: rows with rising keys rise and have no key twice, and rising rows with no key twice have rising keys.
 -- Assumes nothing.
-use Prim.Native.Nat.{ℕ, zero, suc, _+_, _<_, _≤_, zero-le, suc-le-suc}
+use Prim.Native.Nat.{ℕ, _<_, _≤_}
 use mathlib.Core.Path.{_≡_, refl, sym, ap, ap₂, _∙_, subst}
 use mathlib.Core.Bool.{Bool, true, false, cond, not, _&&_, _||_, true≢false}
-use mathlib.Core.List.{List, [], _∷_, map}
-use native.Mathlib.Nat.{not-suc-le-zero, le-of-suc-le-suc}
+use mathlib.Core.List.{[], _∷_, map}
+use native.Mathlib.Nat.{not-suc-le-zero}
 use native.Mathlib.Omega.{arith}
 use lib.Dec.{T, ltb, eqb, ltb→lt, lt→ltb}
 use lib.ListN.{length, getD, set}
 use lib.Seq.{map-set-same}
-use borrow.Author.Tests.{ne-eqb, eq-eqb}
-use Rattle.lists.specs.Lists.{all, any, select}
-use Rattle.lists.specs.Totals.{total}
-use Rattle.lists.proofs.Totals.{total-cons}
-use Rattle.lists.proofs.Truth.{Mem, F→≡, F→not, not→F, false→F, same-test, and-fst, and-snd, and-both, all-get, all-make, any-get, any-make, mem-map, map-mem, mem-getD, eq→eqb, eqb→≡}
+use Rattle.lists.specs.Lists.{all, any, select, rises}
+use Rattle.lists.proofs.Totals.{total-cons, total-set}
+use Rattle.lists.proofs.Rises.{rises-at}
+use Rattle.lists.proofs.Truth.{Mem, F→not, not→F, same-test, and-fst, and-snd, and-both, all-get, all-make, any-get, any-make, mem-map, map-mem, mem-getD}
+use Rattle.lists.proofs.Truth.{eq→eqb, eqb→≡}
 use Rattle.rows.specs.Rows.{Row, Rows, key, rowOrder, thenBy, isLess, smaller, notAfter, rising, putRow, takeRow, hasKey, noKeyTwice}
 use Rattle.rows.specs.Ranks.{rankKey}
 use Rattle.rows.specs.Regions.{keysRise}
 use Rattle.rows.proofs.Ordered.{Compared, lt, eq, gt, compared, word-less, false-after, smaller-once}
 use Rattle.rows.proofs.Sorted.{rising-first, rising-rest, rising-cons, rising-put, rising-take, same-rising, total-put, same-take}
 use Rattle.rows.proofs.Search.{key-up}
-use Rattle.rows.proofs.Ranks.{mem-at, rankKey-at, There}
-use Rattle.rows.proofs.Pairs.{pairs-at, keyLess, keys-pairs}
+use Rattle.rows.proofs.Ranks.{rankKey-at, There}
+use Rattle.rows.proofs.Pairs.{keyLess, keys-are}
 
 pub key-smaller : (r s : Row) → key r < key s → smaller r s ≡ true
 unfolding smaller rowOrder thenBy isLess
@@ -34,9 +34,10 @@ unfolding keysRise rising
 up-once [] h = tt
 up-once (r ∷ rows) h =
     let rest = up-once rows (and-snd (all (keyLess r) rows) (keysRise rows) h) in
-    and-both (rising (r ∷ rows)) (noKeyTwice (r ∷ rows))
-    (rising-cons r rows (all-make (notAfter r) rows (λ s m. false-after r s (smaller-once r s (key-smaller r s (above s m))))) (and-fst (rising rows) (noKeyTwice rows) rest))
-    (and-both (not (any (eqb (key r)) (map key rows))) (noKeyTwice rows) (F→not (any (eqb (key r)) (map key rows)) (λ a. none (any-get (eqb (key r)) (map key rows) a))) (and-snd (rising rows) (noKeyTwice rows) rest))
+    let up = all-make (notAfter r) rows (λ s m. false-after r s (smaller-once r s (key-smaller r s (above s m)))) in
+    let new = F→not (any (eqb (key r)) (map key rows)) (λ a. none (any-get (eqb (key r)) (map key rows) a)) in
+    and-both (rising (r ∷ rows)) (noKeyTwice (r ∷ rows)) (rising-cons r rows up (and-fst (rising rows) (noKeyTwice rows) rest))
+    (and-both (not (any (eqb (key r)) (map key rows))) (noKeyTwice rows) new (and-snd (rising rows) (noKeyTwice rows) rest))
   where
     first : T (all (keyLess r) rows)
     first = and-fst (all (keyLess r) rows) (keysRise rows) h
@@ -53,7 +54,8 @@ once-up : (rows : Rows) → T (rising rows) → T (noKeyTwice rows) → T (keysR
 unfolding keysRise
 once-up [] u h = tt
 once-up (r ∷ rows) u h =
-    and-both (all (keyLess r) rows) (keysRise rows) (all-make (keyLess r) rows above) (once-up rows (rising-rest r rows u) (and-snd (not (any (eqb (key r)) (map key rows))) (noKeyTwice rows) h))
+    and-both (all (keyLess r) rows) (keysRise rows) (all-make (keyLess r) rows above)
+    (once-up rows (rising-rest r rows u) (and-snd (not (any (eqb (key r)) (map key rows))) (noKeyTwice rows) h))
   where
     new : T (any (eqb (key r)) (map key rows)) → ⊥
     new = not→F (any (eqb (key r)) (map key rows)) (and-fst (not (any (eqb (key r)) (map key rows))) (noKeyTwice rows) h)
@@ -65,9 +67,11 @@ once-up (r ∷ rows) u h =
         lt→ltb (key r) (key s) (omega arith)
 
 pub keys-rise : (rows : Rows) → keysRise rows ≡ (rising rows && noKeyTwice rows)
-keys-rise rows = same-test (keysRise rows) (rising rows && noKeyTwice rows) (up-once rows) (λ h. once-up rows (and-fst (rising rows) (noKeyTwice rows) h) (and-snd (rising rows) (noKeyTwice rows) h))
+keys-rise rows =
+    same-test (keysRise rows) (rising rows && noKeyTwice rows) (up-once rows)
+    (λ h. once-up rows (and-fst (rising rows) (noKeyTwice rows) h) (and-snd (rising rows) (noKeyTwice rows) h))
 
--- a selection that none, or only row i, passes
+-- a selection that none passes
 pub select-none : (p : Row → Bool) (rows : Rows) → any p rows ≡ false → select p rows ≡ []
 select-none p [] e = refl
 select-none p (r ∷ rows) e = go (p r) (select-none p rows) e
@@ -76,24 +80,11 @@ select-none p (r ∷ rows) e = go (p r) (select-none p rows) e
     go true ih e = absurd (true≢false e)
     go false ih e = ih e
 
-select-only : (p : Row → Bool) (rows : Rows) (i : ℕ) → i < length rows → p (getD rows i []) ≡ true
-    → ((j : ℕ) → j < length rows → (j ≡ i → ⊥) → p (getD rows j []) ≡ false) → select p rows ≡ getD rows i [] ∷ []
-select-only p [] i l e f = absurd (not-suc-le-zero l)
-select-only p (r ∷ rows) zero l e f =
-    let n : any p rows ≡ false = F→≡ (any p rows) (λ h.
-    let m = any-get p rows h in
-    let q = mem-at [] (m .0) rows (m .1) in
-    false→F (f (suc (q .0)) (suc-le-suc (q .1)) (λ z. omega arith)) (rw (q .2) (m .2))) in
-    rw e (ap (λ (l : Rows). r ∷ l) (select-none p rows n))
-select-only p (r ∷ rows) (suc i) l e f =
-    rw (f 0 (suc-le-suc zero-le) (λ z. omega arith))
-    (select-only p rows i (le-of-suc-le-suc l) e (λ j m d. f (suc j) (suc-le-suc m) (λ z. d (omega arith))))
-
 -- the keys of a side table
 module _ (rows : Rows) (u : T (rising rows)) (once : T (noKeyTwice rows)) where
   pub keys-at : (i j : ℕ) → i < j → j < length rows → key (getD rows i []) < key (getD rows j [])
   keys-at i j l m =
-      ltb→lt (key (getD rows i [])) (key (getD rows j [])) (pairs-at keyLess rows (subst T (keys-pairs rows) (once-up rows u once)) i j l m)
+      ltb→lt (key (getD rows i [])) (key (getD rows j [])) (rises-at keyLess [] rows (subst T (keys-are rows) (once-up rows u once)) i j l m)
 
   -- a key stands at its place and nowhere else
   pub only-at : (k i : ℕ) → i < length rows → key (getD rows i []) ≡ k → i ≡ rankKey k rows
@@ -107,22 +98,12 @@ module _ (rows : Rows) (u : T (rising rows)) (once : T (noKeyTwice rows)) where
       go (eq h) m q = h
       go (gt h) m q = absurd (omega (arith, keys-at (rankKey k rows) i h l))
 
-  pub select-key : (k : ℕ) → T (hasKey k rows) → select (λ r. eqb k (key r)) rows ≡ getD rows (rankKey k rows) [] ∷ []
-  select-key k h =
-      let p = rankKey-at k rows u h in
-      select-only (λ r. eqb k (key r)) rows (rankKey k rows) (p .0) (eq-eqb k _ (sym (p .1)))
-      (λ j l d. ne-eqb k (key (getD rows j [])) (λ e. d (only-at k j l (sym e))))
-
 pub select-key-none : (k : ℕ) (rows : Rows) → hasKey k rows ≡ false → select (λ r. eqb k (key r)) rows ≡ []
 select-key-none k rows e = select-none (λ r. eqb k (key r)) rows e
 
 -- A side table's row replaced by one with the same key
-abbrev numbersRise : List ℕ → Bool
-numbersRise [] = true
-numbersRise (x ∷ xs) = all (ltb x) xs && numbersRise xs
-
-keys-numbers : (rows : Rows) → keysRise rows ≡ numbersRise (map key rows)
-unfolding keysRise
+keys-numbers : (rows : Rows) → keysRise rows ≡ rises ltb (map key rows)
+unfolding keysRise rises
 keys-numbers [] = refl
 keys-numbers (r ∷ rows) = ap₂ _&&_ (each rows) (keys-numbers rows)
   where
@@ -130,27 +111,25 @@ keys-numbers (r ∷ rows) = ap₂ _&&_ (each rows) (keys-numbers rows)
     each [] = refl
     each (s ∷ rows) = ap (λ b. ltb (key r) (key s) && b) (each rows)
 
-total-set : (f : Row → ℕ) (rows : Rows) (i : ℕ) (r : Row) → i < length rows → total f (set rows i r) + f (getD rows i []) ≡ f r + total f rows
-unfolding total
-total-set f [] i r l = absurd (not-suc-le-zero l)
-total-set f (q ∷ rows) zero r l = omega arith
-total-set f (q ∷ rows) (suc i) r l = omega (arith, total-set f rows i r (le-of-suc-le-suc l))
-
 pub record Replaced (old new : Row) (rows : Rows) (i : ℕ) : Type 0 where
   pub up : T (rising (set rows i new))
   pub once : T (noKeyTwice (set rows i new))
   pub is : putRow new (takeRow old rows) ≡ set rows i new
 
-pub replace-side : (old new : Row) (rows : Rows) (i : ℕ) → T (rising rows) → T (noKeyTwice rows) → There old rows i → key new ≡ key old → Replaced old new rows i
+pub replace-side : (old new : Row) (rows : Rows) (i : ℕ) → T (rising rows) → T (noKeyTwice rows) → There old rows i → key new ≡ key old
+    → Replaced old new rows i
 replace-side old new rows i u once t e =
     let keys : map key (set rows i new) ≡ map key rows = map-set-same key rows i new [] (e ∙ ap key (sym (t .there))) in
-    let k : T (keysRise (set rows i new)) = subst T (keys-numbers rows ∙ ap numbersRise (sym keys) ∙ sym (keys-numbers (set rows i new))) (once-up rows u once) in
-    let both : T (rising (set rows i new) && noKeyTwice (set rows i new)) = up-once (set rows i new) k in
+    let still : keysRise rows ≡ keysRise (set rows i new) = keys-numbers rows ∙ ap (rises ltb) (sym keys) ∙ sym (keys-numbers (set rows i new)) in
+    let both : T (rising (set rows i new) && noKeyTwice (set rows i new)) = up-once (set rows i new) (subst T still (once-up rows u once)) in
     let up : T (rising (set rows i new)) = and-fst (rising (set rows i new)) (noKeyTwice (set rows i new)) both in
     record {
       up = up;
       once = and-snd (rising (set rows i new)) (noKeyTwice (set rows i new)) both;
       is =
           same-rising (putRow new (takeRow old rows)) (set rows i new) (rising-put new (takeRow old rows) (rising-take old rows u)) up (λ f.
-          omega (arith, total-put f new (takeRow old rows), same-take old rows (t .has) f, total-cons f old (takeRow old rows), total-set f rows i new (t .below), ap f (t .there)));
+          let put = total-put f new (takeRow old rows) in
+          let out = same-take old rows (t .has) f ∙ total-cons f old (takeRow old rows) in
+          let over = total-set [] f rows i new (t .below) in
+          omega (arith, ap f (t .there)));
     }

@@ -2,12 +2,12 @@ pub mod Ordered
 pub mod Sorted
 pub mod Cut
 pub mod Columns
+pub mod Pairs
 pub mod Search
 pub mod Ranks
 pub mod Moves
 pub mod Regions
 pub mod Marks
-pub mod Pairs
 pub mod Keys
 pub mod Takes
 pub mod Sound

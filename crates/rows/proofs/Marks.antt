@@ -3,17 +3,19 @@
 use Prim.Native.Nat.{ℕ, zero, suc, _+_, _-_, _*_, _<_, _≤_, zero-le, suc-le-suc}
 use mathlib.Core.Path.{_≡_, refl, sym, ap, _∙_, subst}
 use mathlib.Core.Bool.{Bool, true, false, cond}
-use mathlib.Core.List.{[], _∷_, _++_, append-assoc}
+use mathlib.Core.List.{[], _∷_, _++_, append-assoc, append-nil}
 use mathlib.Core.Logic.{_⊎_, inl, inr}
-use native.Mathlib.Nat.{not-suc-le-zero, le-of-suc-le-suc, suc-mul, mul-le-mul-right, zero-mul}
+use native.Mathlib.Nat.{not-suc-le-zero, le-of-suc-le-suc, suc-mul, mul-le-mul-right, zero-mul, add-sub-of-le}
 use native.Mathlib.Omega.{arith}
 use native.Mathlib.Numerals.{add-one}
 use lib.Dec.{T, eqb, ltb}
-use lib.ListN.{length, getD, take, drop, set, replicate, length-replicate, length-append, length-take, length-drop, length-set, getD-replicate, List·getD-eq-default}
+use lib.ListN.{length, getD, take, drop, set, replicate, length-replicate, length-append, length-take, length-drop, length-set, getD-replicate}
+use lib.ListN.{List·getD-eq-default}
 use lib.Seq.{take-at, drop-at, drop-drop, take-all, getD-set-same, getD-set-other}
 use borrow.Author.Tests.{eqb-true, eqb-false, eq-eqb, ne-eqb, ltb-true, ltb-false}
 use Rattle.lists.specs.Lists.{Words, at, all, flat}
-use Rattle.lists.proofs.Truth.{T→≡, F→≡, false→F, and-fst, and-snd, and-both, or-cases, or-inl, or-inr, decided}
+use Rattle.lists.proofs.Places.{flat-append}
+use Rattle.lists.proofs.Truth.{T→≡, F→≡, false→F, all-cons, all-first, all-rest, or-cases, or-inl, or-inr, decided}
 use Rattle.rows.specs.declared.Order.{Order}
 use Rattle.rows.specs.declared.Order.the-variants.{Less, Equal, Greater}
 use Rattle.rows.specs.Rows.{Row, Rows, cut, rowOrder, sameRow, notAfter, rising, hasRow, takeRow}
@@ -23,7 +25,7 @@ use Rattle.rows.specs.Regions.{Region, Holds}
 use Rattle.rows.specs.Marks.{unmarked, Tally, Tallied, Marking}
 use Rattle.rows.proofs.Ordered.{same-refl, same→≡, ≡→same, order-equal, order-less-differs, order-greater-differs}
 use Rattle.rows.proofs.Sorted.{rising-first, rising-rest, rising-cons}
-use Rattle.rows.proofs.Cut.{cut-length, cut-at, cut-split, cut-suc, cut-zero, cut-flat, Wide, wide-cut, length-flat}
+use Rattle.rows.proofs.Cut.{cut-length, cut-at, cut-snoc, cut-flat, Wide, wide-cut, length-flat}
 use Rattle.rows.proofs.Ranks.{equal-at, equal-place, rankAfter-le}
 use Rattle.rows.proofs.Regions.{holds, all-append, all-zeros, take-none}
 
@@ -32,10 +34,10 @@ module _ (p : Row → Bool) where
   pub all-unmarked : (marks : Words) (rows : Rows) → T (all p rows) → T (all p (unmarked marks rows))
   unfolding unmarked
   all-unmarked marks [] h = tt
-  all-unmarked marks (r ∷ rows) h = go (eqb (at marks 0) 0) (all-unmarked (drop 1 marks) rows (and-snd (p r) (all p rows) h))
+  all-unmarked marks (r ∷ rows) h = go (eqb (at marks 0) 0) (all-unmarked (drop 1 marks) rows (all-rest p r rows h))
     where
       go : (b : Bool) → T (all p (unmarked (drop 1 marks) rows)) → T (all p (cond b (r ∷ unmarked (drop 1 marks) rows) (unmarked (drop 1 marks) rows)))
-      go true ih = and-both (p r) (all p (unmarked (drop 1 marks) rows)) (and-fst (p r) (all p rows) h) ih
+      go true ih = all-cons p r (unmarked (drop 1 marks) rows) (all-first p r rows h) ih
       go false ih = ih
 
 pub rising-unmarked : (marks : Words) (rows : Rows) → T (rising rows) → T (rising (unmarked marks rows))
@@ -77,68 +79,58 @@ pub record Closing (w : ℕ) (marks old : Words) (i k : ℕ) (s : Words) : Type 
   pub kept : length (unmarked marks (cut w i old)) ≡ k
   pub words : s ≡ flat (unmarked marks (cut w i old)) ++ drop (k * w) old
 
-pub flat-append : (xs ys : Rows) → flat (xs ++ ys) ≡ flat xs ++ flat ys
-flat-append [] ys = refl
-flat-append (x ∷ xs) ys = ap (λ (l : Words). x ++ l) (flat-append xs ys) ∙ sym (append-assoc x (flat xs) (flat ys))
-
-pub cut-snoc : (w i : ℕ) (s : Words) → cut w (i + 1) s ≡ cut w i s ++ (row w i s ∷ [])
-cut-snoc w i s = cut-split w i 1 s ∙ ap (λ (l : Rows). cut w i s ++ l) (cut-suc w 0 (drop (i * w) s) ∙ ap (λ (l : Rows). row w i s ∷ l) (cut-zero w (drop w (drop (i * w) s))))
-
 pub closing-start : (w : ℕ) (marks s : Words) → Closing w marks s 0 0 s
 unfolding cut unmarked
 closing-start w marks s = record { below = omega arith; long = refl; kept = refl; words = rw (zero-mul w) }
 
-module _ (w : ℕ) (marks old : Words) (i k : ℕ) (x : Words) (cl : Closing w marks old i k x) (fits : i * w + w ≤ length old) where
-  stay : Rows
+module _ (w : ℕ) (marks old : Words) (i k : ℕ) (x : Words) (cl : Closing w marks old i k x) (fits : i * w ≤ length old) where
+  abbrev stay : Rows
   stay = unmarked marks (cut w i old)
 
+  stay-wide : Wide w stay
+  stay-wide = all-unmarked (λ r. eqb (length r) w) marks (cut w i old) (wide-cut w i old fits)
+
+  stay-long : length (flat stay) ≡ k * w
+  stay-long = length-flat w stay stay-wide ∙ ap (λ (n : ℕ). n * w) (cl .kept)
+
+  -- the rows that stay, and the words behind them
+  front : take (k * w) x ≡ flat stay
+  front = rw (cl .words, take-at (flat stay) (drop (k * w) old) (k * w) stay-long)
+
+  behind : (m : ℕ) → k * w ≤ m → drop m x ≡ drop m old
+  behind m h =
+      let d : drop (k * w) x ≡ drop (k * w) old = rw (cl .words, drop-at (flat stay) (drop (k * w) old) (k * w) stay-long) in
+      rw (← add-sub-of-le h, ← drop-drop (m - k * w) (k * w) x, ← drop-drop (m - k * w) (k * w) old, d)
+
   more : unmarked marks (cut w (i + 1) old) ≡ stay ++ cond (eqb (at marks i) 0) (row w i old ∷ []) []
-  unfolding stay
   more = ap (unmarked marks) (cut-snoc w i old) ∙ unmarked-snoc marks (cut w i old) (row w i old) ∙ rw cut-length
 
   pub closing-drop : (at marks i ≡ 0 → ⊥) → Closing w marks old (i + 1) k x
-  unfolding stay
   closing-drop h =
-      let n : eqb (at marks i) 0 ≡ false = ne-eqb (at marks i) 0 h in
       let b = cl .below in
-      let e : unmarked marks (cut w (i + 1) old) ≡ unmarked marks (cut w i old) = more ∙ rw n (append-nil (unmarked marks (cut w i old))) in
-      record { below = omega arith; long = cl .long; kept = ap length e ∙ cl .kept; words = cl .words ∙ ap (λ (l : Rows). flat l ++ drop (k * w) old) (sym e) }
-    where
-      append-nil : (xs : Rows) → xs ++ [] ≡ xs
-      append-nil [] = refl
-      append-nil (y ∷ xs) = ap (λ (l : Rows). y ∷ l) (append-nil xs)
+      let e : unmarked marks (cut w (i + 1) old) ≡ stay = more ∙ rw (ne-eqb (at marks i) 0 h, append-nil) in
+      record {
+        below = omega arith;
+        long = cl .long;
+        kept = ap length e ∙ cl .kept;
+        words = cl .words ∙ ap (λ (l : Rows). flat l ++ drop (k * w) old) (sym e);
+      }
 
-  stay-long : length (flat stay) ≡ k * w
-  unfolding stay
-  stay-long =
-      let wide : Wide w (unmarked marks (cut w i old)) = all-unmarked (λ r. eqb (length r) w) marks (cut w i old) (wide-cut w i old (omega arith)) in
-      length-flat w (unmarked marks (cut w i old)) wide ∙ ap (λ (n : ℕ). n * w) (cl .kept)
-
-  pub closing-keep : (y : Words) → at marks i ≡ 0 → y ≡ lowered x (k * w) (i * w) w → Closing w marks old (i + 1) (k + 1) y
-  unfolding stay lowered
-  closing-keep y h ey =
-      let n : eqb (at marks i) 0 ≡ true = eq-eqb (at marks i) 0 h in
+  pub closing-keep : (y : Words) → i * w + w ≤ length old → at marks i ≡ 0 → y ≡ lowered x (k * w) (i * w) w → Closing w marks old (i + 1) (k + 1) y
+  unfolding lowered
+  closing-keep y inside h ey =
       let b = cl .below in
       let le : k * w ≤ i * w = mul-le-mul-right w b in
-      let e : unmarked marks (cut w (i + 1) old) ≡ stay ++ (row w i old ∷ []) = more ∙ rw n in
-      let t : take (k * w) x ≡ flat stay = rw (cl .words, take-at (flat stay) (drop (k * w) old) (k * w) stay-long) in
-      let d : drop (k * w) x ≡ drop (k * w) old = rw (cl .words, drop-at (flat stay) (drop (k * w) old) (k * w) stay-long) in
-      let m : k * w + (i * w - k * w) ≡ i * w = omega arith in
-      let f : drop (i * w) x ≡ drop (i * w) old = rw (← m, ← drop-drop (i * w - k * w) (k * w) x, ← drop-drop (i * w - k * w) (k * w) old, d) in
-      let g : drop (k * w + w) x ≡ drop (k * w + w) old = rw (← drop-drop w (k * w) x, ← drop-drop w (k * w) old, d) in
+      let e : unmarked marks (cut w (i + 1) old) ≡ stay ++ (row w i old ∷ []) = more ∙ rw (eq-eqb (at marks i) 0 h) in
+      let fl : flat (stay ++ (row w i old ∷ [])) ≡ flat stay ++ row w i old = flat-append stay (row w i old ∷ []) ∙ rw append-nil in
       let q : (k + 1) * w ≡ k * w + w = rw add-one (suc-mul k w) in
-      let fl : flat (stay ++ (row w i old ∷ [])) ≡ flat stay ++ row w i old = flat-append stay (row w i old ∷ []) ∙ ap (λ (l : Words). flat stay ++ l) (nil (row w i old)) in
       let yl : length y ≡ length x = rw ey (simp (length-append, length-take, length-drop) (omega (arith, cl .long))) in
       record {
         below = omega arith;
         long = yl ∙ cl .long;
         kept = ap length e ∙ length-append stay (row w i old ∷ []) ∙ ap (λ (n : ℕ). n + 1) (cl .kept);
-        words = rw (ey, t, f, g, e, fl, q, append-assoc);
+        words = rw (ey, front, behind (i * w) le, behind (k * w + w) (omega arith), e, fl, q, append-assoc);
       }
-    where
-      nil : (xs : Words) → xs ++ [] ≡ xs
-      nil [] = refl
-      nil (y ∷ xs) = ap (λ (l : Words). y ∷ l) (nil xs)
 
 pub closing-end : (w n i k : ℕ) (marks old x y : Words) → Region w n old → n ≤ i → i ≤ n → Closing w marks old i k x
     → y ≡ written x (k * w) (replicate (n * w - k * w) 0) (n * w - k * w) → Holds w k (unmarked marks (cut w n old)) y
@@ -149,48 +141,49 @@ closing-end w n i k marks old x y g l l′ cl′ ey =
     let stay : Rows = unmarked marks (cut w n old) in
     let le : k * w ≤ n * w = mul-le-mul-right w (cl .below) in
     let m : k * w + (n * w - k * w) ≡ n * w = omega arith in
-    let wide : Wide w stay = all-unmarked (λ r. eqb (length r) w) marks (cut w n old) (wide-cut w n old (g .fits)) in
-    let sl : length (flat stay) ≡ k * w = length-flat w stay wide ∙ ap (λ (j : ℕ). j * w) (cl .kept) in
-    let t : take (k * w) x ≡ flat stay = rw (cl .words, take-at (flat stay) (drop (k * w) old) (k * w) sl) in
-    let d : drop (k * w) x ≡ drop (k * w) old = rw (cl .words, drop-at (flat stay) (drop (k * w) old) (k * w) sl) in
-    let f : drop (n * w) x ≡ drop (n * w) old = rw (← m, ← drop-drop (n * w - k * w) (k * w) x, ← drop-drop (n * w - k * w) (k * w) old, d) in
-    let rest : Words = replicate (n * w - k * w) 0 ++ drop (n * w) old in
+    let free : Words = replicate (n * w - k * w) 0 in
+    let rest : Words = free ++ drop (n * w) old in
+    let all-of-it : take (n * w - k * w) free ≡ free = take-all (n * w - k * w) free (rw length-replicate (omega arith)) in
     let e : y ≡ flat stay ++ rest =
-    rw (ey, m, f, t, take-all {A = ℕ} (n * w - k * w) (replicate (n * w - k * w) 0) (rw length-replicate (omega arith)), append-assoc) in
-    let c : cut w k y ≡ stay = ap (cut w k) e ∙ (rw (cl .kept) at (cut-flat w stay rest wide)) in
+    rw (ey, m, behind w marks old n k x cl (g .fits) (n * w) le, front w marks old n k x cl (g .fits), all-of-it, append-assoc) in
+    let sl : length (flat stay) ≡ k * w = stay-long w marks old n k x cl (g .fits) in
+    let c : cut w k y ≡ stay = ap (cut w k) e ∙ (rw (cl .kept) at (cut-flat w stay rest (stay-wide w marks old n k x cl (g .fits)))) in
     holds w k stay y c (record {
       fits = rw (e, length-append (flat stay) rest) (omega arith);
       up = rw c (rising-unmarked marks (cut w n old) (g .up));
-      zeros = rw (e, drop-at (flat stay) rest (k * w) sl) (all-append (eqb 0) (replicate (n * w - k * w) 0) (drop (n * w) old) (all-zeros (n * w - k * w)) (g .zeros));
+      zeros = rw (e, drop-at (flat stay) rest (k * w) sl) (all-append (eqb 0) free (drop (n * w) old) (all-zeros (n * w - k * w)) (g .zeros));
     })
-
--- A row that stays stands among the rows, and its mark is 0
-pub stays-at : (r : Row) (marks : Words) (rows : Rows) → T (hasRow r (unmarked marks rows)) → (j : ℕ) × (j < length rows) × (getD rows j [] ≡ r) × (at marks j ≡ 0)
-unfolding unmarked
-stays-at r marks [] h = absurd h
-stays-at r [] (q ∷ rows) h = go (or-cases (sameRow r q) (hasRow r (unmarked [] rows)) h) (λ k. stays-at r [] rows k)
-  where
-    go : T (sameRow r q) ⊎ T (hasRow r (unmarked [] rows)) → (T (hasRow r (unmarked [] rows)) → (j : ℕ) × (j < length rows) × (getD rows j [] ≡ r) × (at [] j ≡ 0))
-        → (j : ℕ) × (j < length (q ∷ rows)) × (getD (q ∷ rows) j [] ≡ r) × (at [] j ≡ 0)
-    go (inl k) ih = (0, suc-le-suc zero-le, sym (same→≡ r q k), refl)
-    go (inr k) ih = let p = ih k in (suc (p .0), suc-le-suc (p .1), p .2, refl)
-stays-at r (m ∷ marks) (q ∷ rows) h = go (eqb m 0) refl h (λ k. stays-at r marks rows k)
-  where
-    go : (b : Bool) → eqb m 0 ≡ b → T (hasRow r (cond b (q ∷ unmarked marks rows) (unmarked marks rows)))
-        → (T (hasRow r (unmarked marks rows)) → (j : ℕ) × (j < length rows) × (getD rows j [] ≡ r) × (at marks j ≡ 0))
-        → (j : ℕ) × (j < length (q ∷ rows)) × (getD (q ∷ rows) j [] ≡ r) × (at (m ∷ marks) j ≡ 0)
-    go true e h ih = here (or-cases (sameRow r q) (hasRow r (unmarked marks rows)) h)
-      where
-        here : T (sameRow r q) ⊎ T (hasRow r (unmarked marks rows)) → (j : ℕ) × (j < length (q ∷ rows)) × (getD (q ∷ rows) j [] ≡ r) × (at (m ∷ marks) j ≡ 0)
-        here (inl k) = (0, suc-le-suc zero-le, sym (same→≡ r q k), eqb-true m 0 e)
-        here (inr k) = let p = ih k in (suc (p .0), suc-le-suc (p .1), p .2, p .3)
-    go false e h ih = let p = ih h in (suc (p .0), suc-le-suc (p .1), p .2, p .3)
 
 pub at-next : (marks : Words) (i : ℕ) → at (drop 1 marks) i ≡ at marks (suc i)
 at-next [] i = refl
 at-next (m ∷ marks) i = refl
 
-pub unmarked-same : (a b : Words) (rows : Rows) → ((i : ℕ) → i < length rows → eqb (at a i) 0 ≡ eqb (at b i) 0) → unmarked a rows ≡ unmarked b rows
+-- a row that equals r and has no mark
+abbrev Left : Row → Words → Rows → Type 0
+Left r marks rows = (j : ℕ) × (j < length rows) × (getD rows j [] ≡ r) × (at marks j ≡ 0)
+
+-- a row that stays stands among the rows, and its mark is 0
+stays-at : (r : Row) (marks : Words) (rows : Rows) → T (hasRow r (unmarked marks rows)) → Left r marks rows
+unfolding unmarked
+stays-at r marks [] h = absurd h
+stays-at r marks (q ∷ rows) h = go (eqb (at marks 0) 0) refl h (λ k. stays-at r (drop 1 marks) rows k)
+  where
+    rest : Rows
+    rest = unmarked (drop 1 marks) rows
+
+    later : Left r (drop 1 marks) rows → Left r marks (q ∷ rows)
+    later p = (suc (p .0), suc-le-suc (p .1), p .2, sym (at-next marks (p .0)) ∙ p .3)
+
+    go : (b : Bool) → eqb (at marks 0) 0 ≡ b → T (hasRow r (cond b (q ∷ rest) rest)) → (T (hasRow r rest) → Left r (drop 1 marks) rows)
+        → Left r marks (q ∷ rows)
+    go true e h ih = here (or-cases (sameRow r q) (hasRow r rest) h)
+      where
+        here : T (sameRow r q) ⊎ T (hasRow r rest) → Left r marks (q ∷ rows)
+        here (inl k) = (0, suc-le-suc zero-le, sym (same→≡ r q k), eqb-true (at marks 0) 0 e)
+        here (inr k) = later (ih k)
+    go false e h ih = later (ih h)
+
+unmarked-same : (a b : Words) (rows : Rows) → ((i : ℕ) → i < length rows → eqb (at a i) 0 ≡ eqb (at b i) 0) → unmarked a rows ≡ unmarked b rows
 unfolding unmarked
 unmarked-same a b [] h = refl
 unmarked-same a b (r ∷ rows) h =
@@ -217,7 +210,8 @@ module _ (r : Row) where
       (λ i m. rw (at-next new i, at-next old i) (s (suc i) (λ q. m (omega arith))))))
     where
       go : (b : Bool) → eqb (at old 0) 0 ≡ b → unmarked (drop 1 new) rows ≡ takeRow r (unmarked (drop 1 old) rows)
-          → cond b (q ∷ unmarked (drop 1 new) rows) (unmarked (drop 1 new) rows) ≡ takeRow r (cond b (q ∷ unmarked (drop 1 old) rows) (unmarked (drop 1 old) rows))
+          → cond b (q ∷ unmarked (drop 1 new) rows) (unmarked (drop 1 new) rows)
+          ≡ takeRow r (cond b (q ∷ unmarked (drop 1 old) rows) (unmarked (drop 1 old) rows))
       go true g ih =
           let d : sameRow r q ≡ false = F→≡ (sameRow r q) (λ k. f 0 (suc-le-suc zero-le) (sym (same→≡ r q k)) (eqb-true (at old 0) 0 g)) in
           rw d (ap (λ (l : Rows). q ∷ l) ih)
@@ -232,18 +226,18 @@ module _ (r : Row) (rows : Rows) (marks : Words) (u : T (rising rows)) (t : Tall
   next-at : T (hasRow r (unmarked marks rows)) → (first + at marks first < length rows) × (getD rows (first + at marks first) [] ≡ r)
   next-at h =
       let p = stays-at r marks rows h in
-      let j : ℕ = p .0 in
-      let g = equal-place r rows u j (p .1) (p .2) in
+      let g = equal-place r rows u (p .0) (p .1) (p .2) in
+      let i : ℕ = p .0 - first in
+      let m : first + i ≡ p .0 = omega (arith, g .0) in
       let ty = t .each r (omega (arith, g .0, g .1)) in
-      let m : rank r rows + (j - rank r rows) ≡ j = omega (arith, g .0) in
-      let le : at marks (rank r rows) ≤ j - rank r rows = not-marked (j - rank r rows) (rw m (p .3)) (ty .marked) (ltb (j - rank r rows) (at marks (rank r rows))) refl in
-      let lt : at marks (rank r rows) < times r rows = omega (arith, g .0, g .1) in
-      (omega (arith, rankAfter-le r rows), equal-at r rows u (rank r rows + at marks (rank r rows)) (omega arith) (omega arith))
+      let le : at marks first ≤ i = not-marked i (rw m (p .3)) (ty .marked) (ltb i (at marks first)) refl in
+      let lt : at marks first < times r rows = omega (arith, g .0, g .1) in
+      (omega (arith, rankAfter-le r rows), equal-at r rows u (first + at marks first) (omega arith) (omega arith))
     where
-      not-marked : (i : ℕ) → at marks (rank r rows + i) ≡ 0 → ((j : ℕ) → j < at marks (rank r rows) → at marks (rank r rows + j) ≡ 0 → ⊥)
-          → (b : Bool) → ltb i (at marks (rank r rows)) ≡ b → at marks (rank r rows) ≤ i
-      not-marked i z f true e = absurd (f i (ltb-true i (at marks (rank r rows)) e) z)
-      not-marked i z f false e = ltb-false i (at marks (rank r rows)) e
+      not-marked : (i : ℕ) → at marks (first + i) ≡ 0 → ((j : ℕ) → j < at marks first → at marks (first + j) ≡ 0 → ⊥)
+          → (b : Bool) → ltb i (at marks first) ≡ b → at marks first ≤ i
+      not-marked i z f true e = absurd (f i (ltb-true i (at marks first) e) z)
+      not-marked i z f false e = ltb-false i (at marks first) e
 
   none-left : ((first + at marks first < length rows) → getD rows (first + at marks first) [] ≡ r → ⊥) → Marking r rows marks marks false
   none-left f =
@@ -295,8 +289,8 @@ module _ (r : Row) (rows : Rows) (marks : Words) (u : T (rising rows)) (t : Tall
       go : (b : Bool) → eqb k f ≡ b → ⊥
       go true g = omega (arith, new-first, ap (at new) (eqb-true k f g))
       go false g =
-          let a : at new k ≡ 1 = getD-set-other (set marks k 1) f k (at marks f + 1) 0 (eqb-false k f g) ∙ getD-set-same marks k 1 0 (omega (arith, t .enough)) in
-          omega arith
+          let a : at (set marks k 1) k ≡ 1 = getD-set-same marks k 1 0 (omega (arith, t .enough)) in
+          omega (arith, getD-set-other (set marks k 1) f k (at marks f + 1) 0 (eqb-false k f g))
 
   -- the marks of rows that differ from r are as they were, and a mark but row k's is 0 if it was
   new-zero : (i : ℕ) → (i ≡ k → ⊥) → eqb (at new i) 0 ≡ eqb (at marks i) 0
@@ -366,7 +360,8 @@ module _ (r : Row) (rows : Rows) (marks : Words) (u : T (rising rows)) (t : Tall
       each q pos (inr n) = others-new q (λ s. n (≡→same r q s)) pos
 
 -- `mark`: the place is past the rows; row k is another row; row k is r
-module _ (w n : ℕ) (r : Row) (s marks : Words) (u : T (rising (cut w n s))) (t : Tallied (cut w n s) marks) (f k : ℕ) (ef : f ≡ rank r (cut w n s)) (ek : k ≡ f + at marks f) where
+module _ (w n : ℕ) (r : Row) (s marks : Words) (u : T (rising (cut w n s))) (t : Tallied (cut w n s) marks)
+    (f k : ℕ) (ef : f ≡ rank r (cut w n s)) (ek : k ≡ f + at marks f) where
   mark-none : (k < n → row w k s ≡ r → ⊥) → Marking r (cut w n s) marks marks false
   mark-none g =
       let kk : k ≡ rank r (cut w n s) + at marks (rank r (cut w n s)) = rw ef at ek in

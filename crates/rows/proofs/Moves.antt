@@ -6,8 +6,10 @@ use mathlib.Core.List.{_∷_, _++_, append-assoc}
 use native.Mathlib.Nat.{add-zero, sub-self}
 use native.Mathlib.Numerals.{add-one}
 use native.Mathlib.Omega.{arith}
-use lib.ListN.{length, take, drop, set, replicate, length-append, length-take, length-drop, length-replicate, getD-replicate, take-append-drop, List·getD-append}
-use lib.Seq.{take-suc, drop-cons, set-at, getD-take, getD-drop, length-take-le, paste-zero, paste-suc, drop-drop, getD-append-add, take-append-le, take-take, take-at, drop-at, take-all}
+use lib.ListN.{length, take, drop, set, replicate, length-append, length-take, length-drop, length-replicate, getD-replicate, take-append-drop}
+use lib.ListN.{List·getD-append}
+use lib.Seq.{take-suc, drop-cons, set-at, getD-take, getD-drop, length-take-le, paste-zero, paste-suc, drop-drop, getD-append-add, take-append-le, take-take}
+use lib.Seq.{take-at, drop-at, take-all}
 use Rattle.lists.specs.Lists.{Words, at}
 use Rattle.rows.specs.Rows.{Row}
 use Rattle.rows.specs.Words.{raised, lowered, written, putWords, takeWords}
@@ -85,11 +87,13 @@ pub written-start : (s : Words) (k : ℕ) (v : Words) → s ≡ written s k v 0
 unfolding written
 written-start s k v = paste-zero s k v
 
-pub written-step : (s x : Words) (k : ℕ) (v : Words) (j : ℕ) → k + j < length s → j < length v → x ≡ written s k v j → set x (k + j) (at v j) ≡ written s k v (j + 1)
+pub written-step : (s x : Words) (k : ℕ) (v : Words) (j : ℕ) → k + j < length s → j < length v → x ≡ written s k v j
+    → set x (k + j) (at v j) ≡ written s k v (j + 1)
 unfolding written
 written-step s x k v j h l inv = rw (inv, add-one j) (paste-suc s k v j 0 h l)
 
-pub cleared-step : (s x : Words) (k n j : ℕ) → k + n ≤ length s → j < n → x ≡ written s k (replicate n 0) j → set x (k + j) 0 ≡ written s k (replicate n 0) (j + 1)
+pub cleared-step : (s x : Words) (k n j : ℕ) → k + n ≤ length s → j < n → x ≡ written s k (replicate n 0) j
+    → set x (k + j) 0 ≡ written s k (replicate n 0) (j + 1)
 cleared-step s x k n j h l inv =
     let z : _≡_ {A = ℕ} 0 (at (replicate n 0) j) = sym (getD-replicate n j 0 0 l) in
     ap (λ (v : ℕ). set x (k + j) v) z ∙ written-step s x k (replicate n 0) j (omega arith) (rw length-replicate l) inv

@@ -7,7 +7,7 @@ use mathlib.Core.List.{[], _∷_}
 use mathlib.Core.Logic.{_⊎_, inl, inr, ⊎-elim}
 use native.Mathlib.Omega.{arith}
 use lib.Dec.{T, ltb, eqb, eqb→eq}
-use borrow.Author.Tests.{ltb-true, ltb-false, lt-ltb, le-ltb, eq-eqb, not-true, not-false}
+use borrow.Author.Tests.{ltb-true, ltb-false, lt-ltb, le-ltb, eq-eqb, not-true}
 use Rattle.lists.proofs.Truth.{isT, T→≡, F→≡, and-fst, and-snd}
 use Rattle.rows.specs.declared.Order.{Order}
 use Rattle.rows.specs.declared.Order.the-variants.{Less, Equal, Greater}
@@ -221,9 +221,6 @@ false-after r s e = rw e tt
 
 pub chain : (r s t : Row) → T (notAfter r s) → T (notAfter s t) → T (notAfter r t)
 chain r s t h k = false-after r t (not-smaller-chain t s r (after-false s t k) (after-false r s h))
-
-pub turned : (r s : Row) → notAfter r s ≡ false → T (notAfter s r)
-turned r s e = false-after s r (smaller-once s r (not-false (smaller s r) e))
 
 pub antisym : (r s : Row) → T (notAfter r s) → T (notAfter s r) → r ≡ s
 antisym r s h k = neither-smaller r s (after-false s r k) (after-false r s h)

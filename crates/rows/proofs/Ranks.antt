@@ -9,10 +9,11 @@ use native.Mathlib.Omega.{arith}
 use lib.Dec.{T, ltb, eqb}
 use lib.ListN.{length, getD}
 use borrow.Author.Tests.{ltb-true, ltb-false, le-ltb}
-use Rattle.lists.specs.Lists.{Words, at}
+use Rattle.lists.specs.Lists.{Words, at, any}
 use Rattle.lists.specs.Totals.{total, one}
 use Rattle.lists.proofs.Truth.{Mem, isT, T→≡, F→≡, false→F, any-get, any-make, mem-getD, eq→eqb, eqb→≡}
 use Rattle.lists.proofs.Totals.{total-sum, total-same, any-total}
+use Rattle.lists.proofs.Search.{Falls, many-le}
 use Rattle.rows.specs.declared.Order.{Order}
 use Rattle.rows.specs.declared.Order.the-variants.{Less, Equal, Greater}
 use Rattle.rows.specs.declared.Found.{Found}
@@ -20,7 +21,8 @@ use Rattle.rows.specs.declared.Found.the-variants.{At, Missing}
 use Rattle.rows.specs.Rows.{Row, Rows, key, cut, rowOrder, smaller, sameRow, notAfter, rising, hasRow, hasKey}
 use Rattle.rows.specs.Ranks.{rank, rankAfter, times, rankKey, foundRow, foundKey}
 use Rattle.rows.specs.Words.{row}
-use Rattle.rows.proofs.Ordered.{itself, same→≡, ≡→same, order-same, order-less-differs, order-greater-differs, order-equal, smaller-itself, neither-smaller, after-false, smaller-once, less-smaller, greater-smaller, less-not-smaller, equal-not-smaller}
+use Rattle.rows.proofs.Ordered.{itself, same→≡, ≡→same, order-same, order-less-differs, order-greater-differs, order-equal, smaller-itself}
+use Rattle.rows.proofs.Ordered.{neither-smaller, after-false, smaller-once, less-smaller, greater-smaller, less-not-smaller, equal-not-smaller}
 use Rattle.rows.proofs.Cut.{cut-length, cut-at}
 use Rattle.rows.proofs.Search.{rising-at, key-up, smaller-falls, not-after-falls, key-falls, passed-below, passed-above, failed-from, row-key}
 
@@ -30,26 +32,23 @@ mem-at d x [] m = absurd m
 mem-at d x (y ∷ xs) (inl e) = (0, suc-le-suc zero-le, sym e)
 mem-at d x (y ∷ xs) (inr m) = let p = mem-at d x xs m in (suc (p .0), suc-le-suc (p .1), p .2)
 
-passes-le : (p : Row → Bool) (rows : Rows) → total (λ q. one (p q)) rows ≤ length rows
-unfolding total
-passes-le p [] = zero-le
-passes-le p (q ∷ rows) = go (p q) (passes-le p rows)
-  where
-    go : (b : Bool) → total (λ q. one (p q)) rows ≤ length rows → one b + total (λ q. one (p q)) rows ≤ suc (length rows)
-    go true h = omega arith
-    go false h = omega arith
+-- a row with what those that pass a falling test have not stands behind them
+behind-passed : (p : Row → Bool) (rows : Rows) → Falls (λ i. p (getD rows i [])) (length rows)
+    → (has : Row → Bool) → ((q : Row) → T (has q) → p q ≡ false) → T (any has rows)
+    → (j : ℕ) × (total (λ q. one (p q)) rows ≤ j) × (j < length rows) × T (has (getD rows j []))
+behind-passed p rows f has fails h =
+    let x = any-get has rows h in
+    let place = mem-at [] (x .0) rows (x .1) in
+    let here : T (has (getD rows (place .0) [])) = rw (place .2) (x .2) in
+    (place .0, failed-from p rows f (place .0) (fails (getD rows (place .0) []) here), place .1, here)
 
 pub rank-le : (r : Row) (rows : Rows) → rank r rows ≤ length rows
 unfolding rank
-rank-le r rows = passes-le (λ q. smaller q r) rows
+rank-le r rows = many-le (λ q. smaller q r) rows
 
 pub rankKey-le : (k : ℕ) (rows : Rows) → rankKey k rows ≤ length rows
 unfolding rankKey
-rankKey-le k rows = passes-le (λ q. ltb (key q) k) rows
-
-pub times-le : (r : Row) (rows : Rows) → times r rows ≤ length rows
-unfolding times
-times-le r rows = passes-le (sameRow r) rows
+rankKey-le k rows = many-le (λ q. ltb (key q) k) rows
 
 -- the place of a row among the rows of a run
 pub place-le : (w n k : ℕ) (r : Row) (s : Words) → k ≡ rank r (cut w n s) → k ≤ n
@@ -79,7 +78,7 @@ equal-between r rows first end e f = (omega (arith, rank-times r rows), omega (a
 
 pub rankAfter-le : (r : Row) (rows : Rows) → rank r rows + times r rows ≤ length rows
 unfolding rankAfter
-rankAfter-le r rows = rw (← rank-times r rows) (passes-le (λ q. notAfter q r) rows)
+rankAfter-le r rows = rw (← rank-times r rows) (many-le (λ q. notAfter q r) rows)
 
 -- row j from the place of r on, below the rows after it, is r; and r stands at its place if at all
 module _ (r : Row) (rows : Rows) (u : T (rising rows)) where
@@ -102,48 +101,40 @@ module _ (r : Row) (rows : Rows) (u : T (rising rows)) where
       below : (b : Bool) → ltb j (rankAfter r rows) ≡ b → j < rankAfter r rows
       below true g = ltb-true j (rankAfter r rows) g
       below false g =
-          let a : notAfter (getD rows j []) r ≡ false = passed-above (λ q. notAfter q r) rows (not-after-falls rows u r) j (ltb-false j (rankAfter r rows) g) m in
-          absurd (false→F (sym (ap (λ (q : Row). notAfter q r) e) ∙ a) (itself r))
+          let l : rankAfter r rows ≤ j = ltb-false j (rankAfter r rows) g in
+          let a : notAfter (getD rows j []) r ≡ false = passed-above (λ q. notAfter q r) rows (not-after-falls rows u r) j l m in
+          absurd (false→F (rw e at a) (itself r))
 
   pub rank-at : T (hasRow r rows) → (rank r rows < length rows) × (getD rows (rank r rows) [] ≡ r)
   unfolding rank
-  rank-at h = go (any-get (sameRow r) rows h)
-    where
-      go : (x : Row) × Mem x rows × T (sameRow r x) → (rank r rows < length rows) × (getD rows (rank r rows) [] ≡ r)
-      go (x, m, k) =
-          let place = mem-at [] x rows m in
-          let j : ℕ = place .0 in
-          let e : getD rows j [] ≡ r = place .2 ∙ sym (same→≡ r x k) in
-          let le : rank r rows ≤ j = failed-from (λ q. smaller q r) rows (smaller-falls rows u r) j (rw e (smaller-itself r)) in
-          let lt : rank r rows < length rows = omega (arith, place .1) in
-          let first : Row = getD rows (rank r rows) [] in
-          let a : smaller first r ≡ false = passed-above (λ q. smaller q r) rows (smaller-falls rows u r) (rank r rows) (omega arith) lt in
-          let b : T (notAfter first r) = subst (λ (y : Row). T (notAfter first y)) e (rising-at rows u (rank r rows) j le (place .1)) in
-          (lt, neither-smaller first r a (after-false first r b))
+  rank-at h =
+      let later = behind-passed (λ q. smaller q r) rows (smaller-falls rows u r) (sameRow r) (λ q k. rw (← same→≡ r q k) (smaller-itself r)) h in
+      let lt : rank r rows < length rows = omega (arith, later .1, later .2) in
+      let first : Row = getD rows (rank r rows) [] in
+      let is : r ≡ getD rows (later .0) [] = same→≡ r (getD rows (later .0) []) (later .3) in
+      let a : smaller first r ≡ false = passed-above (λ q. smaller q r) rows (smaller-falls rows u r) (rank r rows) (omega arith) lt in
+      let b : T (notAfter first r) = rw (← is) at (rising-at rows u (rank r rows) (later .0) (later .1) (later .2)) in
+      (lt, neither-smaller first r a (after-false first r b))
 
 -- the same of a key
 pub rankKey-at : (k : ℕ) (rows : Rows) → T (rising rows) → T (hasKey k rows) → (rankKey k rows < length rows) × (key (getD rows (rankKey k rows) []) ≡ k)
 unfolding rankKey
-rankKey-at k rows u h = go (any-get (λ r. eqb k (key r)) rows h)
-  where
-    go : (x : Row) × Mem x rows × T (eqb k (key x)) → (rankKey k rows < length rows) × (key (getD rows (rankKey k rows) []) ≡ k)
-    go (x, m, e) =
-        let place = mem-at [] x rows m in
-        let j : ℕ = place .0 in
-        let q : key (getD rows j []) ≡ k = ap key (place .2) ∙ sym (eqb→≡ k (key x) e) in
-        let le : rankKey k rows ≤ j = failed-from (λ q. ltb (key q) k) rows (key-falls rows u k) j (le-ltb (key (getD rows j [])) k (omega arith)) in
-        let lt : rankKey k rows < length rows = omega (arith, place .1) in
-        let first : Row = getD rows (rankKey k rows) [] in
-        let a : k ≤ key first = ltb-false (key first) k (passed-above (λ q. ltb (key q) k) rows (key-falls rows u k) (rankKey k rows) (omega arith) lt) in
-        let b : key first ≤ key (getD rows j []) = key-up first (getD rows j []) (rising-at rows u (rankKey k rows) j le (place .1)) in
-        (lt, omega arith)
+rankKey-at k rows u h =
+    let fails : (q : Row) → T (eqb k (key q)) → ltb (key q) k ≡ false = λ q e. le-ltb (key q) k (omega (arith, eqb→≡ k (key q) e)) in
+    let later = behind-passed (λ q. ltb (key q) k) rows (key-falls rows u k) (λ q. eqb k (key q)) fails h in
+    let lt : rankKey k rows < length rows = omega (arith, later .1, later .2) in
+    let first : Row = getD rows (rankKey k rows) [] in
+    let last : Row = getD rows (later .0) [] in
+    let a : k ≤ key first = ltb-false (key first) k (passed-above (λ q. ltb (key q) k) rows (key-falls rows u k) (rankKey k rows) (omega arith) lt) in
+    let b : key first ≤ key last = key-up first last (rising-at rows u (rankKey k rows) (later .0) (later .1) (later .2)) in
+    (lt, omega (arith, eqb→≡ k (key last) (later .3)))
 
 -- Found or missing, by what stands at the place
 found-yes : (r : Row) (rows : Rows) (k : ℕ) → k ≡ rank r rows → k < length rows → getD rows k [] ≡ r → At k ≡ foundRow r rows
 unfolding foundRow
 found-yes r rows k e l q =
-    let h : hasRow r rows ≡ true = T→≡ (hasRow r rows) (any-make (sameRow r) rows (getD rows k []) (mem-getD [] rows k l) (≡→same r (getD rows k []) (sym q))) in
-    rw h (ap At e)
+    let has : T (hasRow r rows) = any-make (sameRow r) rows (getD rows k []) (mem-getD [] rows k l) (≡→same r (getD rows k []) (sym q)) in
+    rw (T→≡ (hasRow r rows) has) (ap At e)
 
 found-no : (r : Row) (rows : Rows) (k : ℕ) → T (rising rows) → k ≡ rank r rows → (k < length rows → getD rows k [] ≡ r → ⊥) → Missing ≡ foundRow r rows
 unfolding foundRow

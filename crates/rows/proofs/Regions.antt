@@ -12,34 +12,36 @@ use lib.ListN.{length, getD, take, drop, set, replicate, length-replicate, lengt
 use lib.Seq.{length-take-le, drop-at, drop-drop, set-split, take-all}
 use Rattle.lists.specs.Lists.{Words, at, all, flat}
 use Rattle.lists.specs.Totals.{total, one}
-use Rattle.lists.proofs.Truth.{and-fst, and-snd, and-both, eqb→≡}
+use Rattle.lists.proofs.Truth.{all-cons, all-first, all-rest, eqb→≡}
 use Rattle.rows.specs.declared.Found.{Found}
 use Rattle.rows.specs.declared.Found.the-variants.{At, Missing}
 use Rattle.rows.specs.Rows.{Row, Rows, cut, smaller, sameRow, notAfter, rising, putRow, hasRow, takeRow}
 use Rattle.rows.specs.Ranks.{rank, foundRow}
-use Rattle.rows.specs.Words.{row, written, putWords, takeWords}
+use Rattle.rows.specs.Words.{row, raised, lowered, written, putWords, takeWords}
 use Rattle.rows.specs.Regions.{laid, putAt, takeAt, Region, Holds}
-use Rattle.rows.proofs.Ordered.{smaller-greater, order-greater-differs, false-after, after-false, same-refl}
-use Rattle.rows.proofs.Sorted.{rising-first, rising-rest, rising-cons, rising-put, all-chain}
+use Rattle.rows.proofs.Ordered.{chain, smaller-greater, order-greater-differs, false-after, after-false, same-refl}
+use Rattle.rows.proofs.Sorted.{rising-first, rising-rest, rising-cons, rising-put}
+use Rattle.lists.proofs.Rises.{all-chain}
 use Rattle.rows.proofs.Cut.{row-fits, cut-length, cut-cons, cut-split, cut-take, take-cut, drop-cut, flat-cut}
 use Rattle.rows.proofs.Search.{smaller-falls, passed-below}
+use Rattle.rows.proofs.Moves.{put-is, take-is}
 use Rattle.rows.proofs.Ranks.{place-le, There, found-row, missing-row}
 
--- Tests of all elements, over parts; these belong to lists
+-- Tests of all elements, over parts of a list
 module _ {A : Type 0} (p : A → Bool) where
   pub all-drop : (k : ℕ) (xs : List A) → T (all p xs) → T (all p (drop k xs))
   all-drop zero xs h = h
   all-drop (suc k) [] h = tt
-  all-drop (suc k) (x ∷ xs) h = all-drop k xs (and-snd (p x) (all p xs) h)
+  all-drop (suc k) (x ∷ xs) h = all-drop k xs (all-rest p x xs h)
 
   pub all-take : (k : ℕ) (xs : List A) → T (all p xs) → T (all p (take k xs))
   all-take zero xs h = tt
   all-take (suc k) [] h = tt
-  all-take (suc k) (x ∷ xs) h = and-both (p x) (all p (take k xs)) (and-fst (p x) (all p xs) h) (all-take k xs (and-snd (p x) (all p xs) h))
+  all-take (suc k) (x ∷ xs) h = all-cons p x (take k xs) (all-first p x xs h) (all-take k xs (all-rest p x xs h))
 
   pub all-append : (xs ys : List A) → T (all p xs) → T (all p ys) → T (all p (xs ++ ys))
   all-append [] ys h k = k
-  all-append (x ∷ xs) ys h k = and-both (p x) (all p (xs ++ ys)) (and-fst (p x) (all p xs) h) (all-append xs ys (and-snd (p x) (all p xs) h) k)
+  all-append (x ∷ xs) ys h k = all-cons p x (xs ++ ys) (all-first p x xs h) (all-append xs ys (all-rest p x xs h) k)
 
 pub all-zeros : (k : ℕ) → T (all (eqb 0) (replicate k 0))
 all-zeros zero = tt
@@ -47,12 +49,7 @@ all-zeros (suc k) = all-zeros k
 
 pub zeros-are : (ws : Words) → T (all (eqb 0) ws) → ws ≡ replicate (length ws) 0
 zeros-are [] h = refl
-zeros-are (x ∷ ws) h = ap₂ _∷_ (sym (eqb→≡ 0 x (and-fst (eqb 0 x) (all (eqb 0) ws) h))) (zeros-are ws (and-snd (eqb 0 x) (all (eqb 0) ws) h))
-
--- the words of rows, as the store has them
-pub laid-is : (k : ℕ) (rows : Rows) → laid k rows ≡ flat rows ++ replicate (k - length (flat rows)) 0
-unfolding laid
-laid-is k rows = refl
+zeros-are (x ∷ ws) h = ap₂ _∷_ (sym (eqb→≡ 0 x (all-first (eqb 0) x ws h))) (zeros-are ws (all-rest (eqb 0) x ws h))
 
 -- A region's every word is known by its rows
 pub region-words : (w n : ℕ) (s : Words) → Region w n s → s ≡ laid (length s) (cut w n s)
@@ -89,8 +86,8 @@ rank-none : (r q : Row) (rows : Rows) → smaller q r ≡ false → T (all (notA
 unfolding rank total
 rank-none r q [] e h = refl
 rank-none r q (s ∷ rows) e h =
-    let a : smaller s r ≡ false = after-false r s (and-fst (notAfter r s) (all (notAfter r) rows) (all-chain r q (s ∷ rows) (false-after r q e) h)) in
-    rw a (omega (arith, rank-none r q rows e (and-snd (notAfter q s) (all (notAfter q) rows) h)))
+    let a : smaller s r ≡ false = after-false r s (all-first (notAfter r) s rows (all-chain notAfter chain r q (s ∷ rows) (false-after r q e) h)) in
+    rw a (omega (arith, rank-none r q rows e (all-rest (notAfter q) s rows h)))
 
 pub put-at-rank : (r : Row) (rows : Rows) → T (rising rows) → putAt (rank r rows) r rows ≡ putRow r rows
 unfolding putRow rank total
@@ -135,7 +132,8 @@ pub rising-takeAt : (rows : Rows) (i : ℕ) → T (rising rows) → T (rising (t
 rising-takeAt [] zero u = u
 rising-takeAt [] (suc i) u = u
 rising-takeAt (r ∷ rows) zero u = rising-rest r rows u
-rising-takeAt (r ∷ rows) (suc i) u = rising-cons r (takeAt i rows) (all-takeAt (notAfter r) rows i (rising-first r rows u)) (rising-takeAt rows i (rising-rest r rows u))
+rising-takeAt (r ∷ rows) (suc i) u =
+    rising-cons r (takeAt i rows) (all-takeAt (notAfter r) rows i (rising-first r rows u)) (rising-takeAt rows i (rising-rest r rows u))
 
 -- The words: i rows below, b rows above
 module _ (w i b : ℕ) (s : Words) where
@@ -209,23 +207,27 @@ module _ (w n i : ℕ) (s : Words) (h : i * w + w ≤ n * w) (fits : n * w ≤ l
       rw (e, drop-at head end (n * w - w) hl)
 
 -- The whole of `put_at` and of `take_at`
-pub region-put : (w n i : ℕ) (r : Row) (s z : Words) → Region w n s → n * w + w ≤ length s → length r ≡ w
-    → i ≡ rank r (cut w n s) → z ≡ putWords w n i r s → Holds w (n + 1) (putRow r (cut w n s)) z
-region-put w n i r s z g fits len e ez =
+pub region-put : (w n i : ℕ) (r : Row) (s y z : Words) → Region w n s → n * w + w ≤ length s → length r ≡ w → i ≡ rank r (cut w n s)
+    → y ≡ raised s (i * w) (n * w) w → z ≡ written y (i * w) r (length r) → Holds w (n + 1) (putRow r (cut w n s)) z
+region-put w n i r s y z g fits len e opened over =
     let rows : Rows = cut w n s in
     let le : i ≤ n = place-le w n i r s e in
     let lew : i * w ≤ n * w = mul-le-mul-right w le in
+    let ez : z ≡ putWords w n i r s = put-is w n i r s y z lew fits len opened over in
     let m : suc n * w ≡ n * w + w = suc-mul n w in
     let c : cut w (suc n) z ≡ putRow r rows = rw (ez, cut-put w n i r s le (g .fits) len, e) (put-at-rank r rows (g .up)) in
     let zl : length z ≡ length s = ap length ez ∙ put-length w n i r s lew fits len in
-    let t : T (all (eqb 0) (drop (n * w + w) z)) = rw (ez, put-behind w n i r s lew fits len, ← drop-drop w (n * w) s) (all-drop (eqb 0) w (drop (n * w) s) (g .zeros)) in
+    let t : T (all (eqb 0) (drop (n * w + w) z)) =
+    rw (ez, put-behind w n i r s lew fits len, ← drop-drop w (n * w) s) (all-drop (eqb 0) w (drop (n * w) s) (g .zeros)) in
     rw add-one (holds w (suc n) (putRow r rows) z c (record { fits = rw m (omega arith); up = rw c (rising-put r rows (g .up)); zeros = rw m t }))
 
-pub region-take : (w n i : ℕ) (s z : Words) → Region w n s → i < n → z ≡ takeWords w n i s → Holds w (n - 1) (takeAt i (cut w n s)) z
-region-take w zero i s z g l ez = absurd (not-suc-le-zero l)
-region-take w (suc n) i s z g l ez =
+pub region-take : (w n i : ℕ) (s y z : Words) → Region w n s → i < n → y ≡ lowered s (i * w) (i * w + w) (n * w - (i * w + w))
+    → z ≡ written y (n * w - w) (replicate w 0) w → Holds w (n - 1) (takeAt i (cut w n s)) z
+region-take w zero i s y z g l moved cleared = absurd (not-suc-le-zero l)
+region-take w (suc n) i s y z g l moved cleared =
     let rows : Rows = cut w (suc n) s in
     let h : i * w + w ≤ suc n * w = row-fits w (suc n) i (suc n * w) l (le-refl (suc n * w)) in
+    let ez : z ≡ takeWords w (suc n) i s = take-is w (suc n) i s y z h (g .fits) moved cleared in
     let c : cut w n z ≡ takeAt i rows = rw (ez, cut-takeAt w n i s (omega arith) (g .fits)) in
     let m : suc n * w - w ≡ n * w = omega (arith, suc-mul n w) in
     let zl : length z ≡ length s = ap length ez ∙ take-length w (suc n) i s h (g .fits) in

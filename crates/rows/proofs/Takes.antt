@@ -1,25 +1,23 @@
 -- Many rows taken out or put in: how often each row is left, so that their order does not matter; and rows taken by a test.
 -- Assumes nothing.
-use Prim.Native.Nat.{ℕ, suc, _+_, _-_, _<_, _≤_, zero-le, suc-le-suc}
+use Prim.Native.Nat.{ℕ, _+_, _-_, _≤_}
 use mathlib.Core.Path.{_≡_, refl, sym, ap, ap₂, _∙_, subst}
 use mathlib.Core.Bool.{Bool, true, false, cond, not, _&&_}
 use mathlib.Core.List.{[], _∷_, _++_}
-use native.Mathlib.Nat.{add-comm}
 use native.Mathlib.Omega.{arith}
-use lib.Dec.{T, eqb}
-use lib.ListN.{length, getD, drop, replicate}
+use lib.Dec.{T}
+use lib.ListN.{length}
 use borrow.Author.Tests.{lt-ltb}
 use Rattle.lists.specs.Lists.{Words, at, all, any, select}
 use Rattle.lists.specs.Totals.{total, one, Same}
-use Rattle.lists.proofs.Truth.{isT, same-test, and-fst, and-snd, and-both}
-use Rattle.lists.proofs.Totals.{total-cons, total-append, total-none, total-length, all-of}
-use Rattle.rows.specs.Rows.{Row, Rows, cut, sameRow, notAfter, rising, putRow, putRows, hasRow, hasRows, takeRow, takeRows}
+use Rattle.lists.proofs.Truth.{isT, same-test, and-false, all-cons, all-first, all-rest, and-both}
+use Rattle.lists.proofs.Totals.{total-length}
+use Rattle.rows.specs.Rows.{Row, Rows, sameRow, notAfter, rising, putRows, hasRow, hasRows, takeRow, takeRows}
 use Rattle.rows.specs.Ranks.{times}
 use Rattle.rows.specs.Marks.{unmarked, Tallied, Marking}
 use Rattle.rows.proofs.Ordered.{same→≡, same-refl}
-use Rattle.rows.proofs.Sorted.{rising-first, rising-rest, rising-cons, rising-takes, all-takeRow, total-put, total-puts, same-times, same-rising, same-takes, puts-same}
+use Rattle.rows.proofs.Sorted.{rising-first, rising-rest, rising-cons, rising-takes, total-puts, same-times, same-rising, same-takes}
 use Rattle.rows.proofs.Ranks.{has-times}
-use Rattle.rows.proofs.Marks.{at-next, unmarked-none, tallied-none}
 
 -- How often a row is left
 pub times-take : (q r : Row) (rows : Rows) → times q (takeRow r rows) ≡ times q rows - one (sameRow q r)
@@ -32,7 +30,8 @@ times-take q r (s ∷ rows) = go (sameRow r s) refl (times-take q r rows)
     go true e ih = let same : one (sameRow q s) ≡ one (sameRow q r) = ap (λ x. one (sameRow q x)) (sym (same→≡ r s (isT e))) in omega arith
     go false e ih = other (sameRow q r) refl ih
       where
-        other : (c : Bool) → sameRow q r ≡ c → times q (takeRow r rows) ≡ times q rows - one c → one (sameRow q s) + times q (takeRow r rows) ≡ one (sameRow q s) + times q rows - one c
+        other : (c : Bool) → sameRow q r ≡ c → times q (takeRow r rows) ≡ times q rows - one c
+            → one (sameRow q s) + times q (takeRow r rows) ≡ one (sameRow q s) + times q rows - one c
         other true g ih = let d : one (sameRow q s) ≡ 0 = ap one (ap (λ x. sameRow x s) (same→≡ q r (isT g)) ∙ e) in omega arith
         other false g ih = omega arith
 
@@ -80,7 +79,7 @@ takes-snoc (x ∷ xs) r rows = takes-snoc xs r (takeRow x rows)
 pub has-append : (xs ys rows : Rows) → hasRows (xs ++ ys) rows ≡ (hasRows xs rows && hasRows ys (takeRows xs rows))
 unfolding takeRows hasRows
 has-append [] ys rows = refl
-has-append (x ∷ xs) ys rows = ap (λ b. hasRow x rows && b) (has-append xs ys (takeRow x rows)) ∙ assoc (hasRow x rows) (hasRows xs (takeRow x rows)) (hasRows ys (takeRows xs (takeRow x rows)))
+has-append (x ∷ xs) ys rows = ap (λ b. hasRow x rows && b) (has-append xs ys (takeRow x rows)) ∙ assoc (hasRow x rows) _ _
   where
     assoc : (a b c : Bool) → (a && (b && c)) ≡ ((a && b) && c)
     assoc true b c = refl
@@ -101,26 +100,13 @@ length-puts xs rows = sym (total-length (putRows xs rows)) ∙ total-puts (λ x.
 pub length-takes : (xs rows : Rows) → T (hasRows xs rows) → length xs + length (takeRows xs rows) ≡ length rows
 length-takes xs rows h = ap₂ _+_ (sym (total-length xs)) (sym (total-length (takeRows xs rows))) ∙ sym (same-takes xs rows h (λ x. 1)) ∙ total-length rows
 
--- Tests of all rows
-pub all-puts : (p : Row → Bool) (xs rows : Rows) → T (all p xs) → T (all p rows) → T (all p (putRows xs rows))
-unfolding putRows
-all-puts p [] rows h k = k
-all-puts p (x ∷ xs) rows h k =
-    subst T (sym (all-of p (putRow x (putRows xs rows)) (x ∷ putRows xs rows) (λ f. total-put f x (putRows xs rows) ∙ sym (total-cons f x (putRows xs rows)))))
-    (and-both (p x) (all p (putRows xs rows)) (and-fst (p x) (all p xs) h) (all-puts p xs rows (and-snd (p x) (all p xs) h) k))
-
-pub all-takes : (p : Row → Bool) (xs rows : Rows) → T (all p rows) → T (all p (takeRows xs rows))
-unfolding takeRows
-all-takes p [] rows h = h
-all-takes p (x ∷ xs) rows h = all-takes p xs (takeRow x rows) (all-takeRow p x rows h)
-
 -- Rows taken by a test: those that fail it stay
 all-select : (q p : Row → Bool) (rows : Rows) → T (all q rows) → T (all q (select p rows))
 all-select q p [] h = h
-all-select q p (r ∷ rows) h = go (p r) (all-select q p rows (and-snd (q r) (all q rows) h))
+all-select q p (r ∷ rows) h = go (p r) (all-select q p rows (all-rest q r rows h))
   where
     go : (b : Bool) → T (all q (select p rows)) → T (all q (cond b (r ∷ select p rows) (select p rows)))
-    go true ih = and-both (q r) (all q (select p rows)) (and-fst (q r) (all q rows) h) ih
+    go true ih = all-cons q r (select p rows) (all-first q r rows h) ih
     go false ih = ih
 
 pub rising-select : (p : Row → Bool) (rows : Rows) → T (rising rows) → T (rising (select p rows))
@@ -136,8 +122,11 @@ unfolding total
 two-parts f p [] = refl
 two-parts f p (r ∷ rows) = go (p r) (two-parts f p rows)
   where
-    go : (b : Bool) → total f rows ≡ total f (select p rows) + total f (select (λ r. not (p r)) rows)
-        → f r + total f rows ≡ total f (cond b (r ∷ select p rows) (select p rows)) + total f (cond (not b) (r ∷ select (λ r. not (p r)) rows) (select (λ r. not (p r)) rows))
+    rest : Rows
+    rest = select (λ r. not (p r)) rows
+
+    go : (b : Bool) → total f rows ≡ total f (select p rows) + total f rest
+        → f r + total f rows ≡ total f (cond b (r ∷ select p rows) (select p rows)) + total f (cond (not b) (r ∷ rest) rest)
     go true ih = omega arith
     go false ih = omega arith
 
@@ -150,31 +139,11 @@ takes-select p rows u =
     same-rising _ _ (rising-takes (select p rows) rows u) (rising-select (λ r. not (p r)) rows u)
     (λ f. omega (arith, same-takes (select p rows) rows (has-select p rows) f, two-parts f p rows))
 
--- marks that are set by a test
-pub unmarked-select : (p : Row → Bool) (marks : Words) (rows : Rows) → ((i : ℕ) → i < length rows → eqb (at marks i) 0 ≡ not (p (getD rows i [])))
-    → unmarked marks rows ≡ select (λ r. not (p r)) rows
-unfolding unmarked
-unmarked-select p marks [] h = refl
-unmarked-select p marks (r ∷ rows) h =
-    rw (h 0 (suc-le-suc zero-le), unmarked-select p (drop 1 marks) rows (λ i l. rw (at-next marks i) (h (suc i) (suc-le-suc l))))
-
--- Rows put in one by one
-pub puts-snoc : (xs : Rows) (r : Row) (rows : Rows) → T (rising rows) → putRow r (putRows xs rows) ≡ putRows (xs ++ (r ∷ [])) rows
-unfolding putRows
-puts-snoc xs r rows u = puts-same (r ∷ xs) (xs ++ (r ∷ [])) rows u (λ f. total-cons f r xs ∙ add-comm (f r) (total f xs) ∙ ap (λ k. total f xs + k) (sym (last f)) ∙ sym (total-append f xs (r ∷ [])))
-  where
-    last : (f : Row → ℕ) → total f (r ∷ []) ≡ f r
-    last f = total-cons f r [] ∙ omega (arith, total-none f [] (λ x m. absurd m))
-
 -- Rows marked one by one: those done leave, each as often as it was marked
 pub record Taken (done rows : Rows) (marks : Words) : Type 0 where
   pub stay : unmarked marks rows ≡ takeRows done rows
   pub there : T (hasRows done rows)
   pub tallied : Tallied rows marks
-
-pub taken-start : (w n : ℕ) (s : Words) (k : ℕ) → n ≤ k → n < 65536 → Taken [] (cut w n s) (replicate k 0)
-unfolding takeRows hasRows
-taken-start w n s k h l = record { stay = unmarked-none k (cut w n s); there = tt; tallied = tallied-none w n s k h l }
 
 pub taken-more : (done : Rows) (r : Row) (rows : Rows) (old new : Words) → Taken done rows old → Marking r rows old new true → Taken (done ++ (r ∷ [])) rows new
 taken-more done r rows old new t m =
@@ -191,7 +160,3 @@ unfolding hasRows
 taken-fails done r rest rows old new t m =
     let left : false ≡ hasRow r (takeRows done rows) = m .left ∙ ap (hasRow r) (t .stay) in
     has-append done (r ∷ rest) rows ∙ rw (← left) (and-false (hasRows done rows))
-  where
-    and-false : (b : Bool) → (b && false) ≡ false
-    and-false true = refl
-    and-false false = refl

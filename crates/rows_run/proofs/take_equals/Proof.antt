@@ -24,15 +24,18 @@ take-requires c κs = search needs
 
 mark-words-requires : tie.Need-mark-words-requires
 mark-words-requires c κs =
-    let st = c .before .before .before .before .before .before .before .before .before in
-    let tk = c .before .before .before .before .take in
-    (tk .ensures .region, fresh _ _ _ (st .pre .1 .0) (tk .ensures .region .fits) (omega arith))
+    let taken = c .before .before .before .before in
+    let start = taken .before .before .before .before .before in
+    let region = taken .take .ensures .region in
+    (region, fresh _ _ _ (start .pre .1 .0) (region .fits) (omega arith))
 
 take-marked-requires : tie.Need-take-marked-requires
 take-marked-requires c κs =
-    let st = c .before .before .before .before .before .before .before .before .before .before .before .before .before .before in
-    let tk = c .before .before .before .before .before .before .before .before .before .take in
-    (tk .ensures .region, omega (arith, tk .ensures .region .fits, ap length (st .pre .1 .0)))
+    let marked = c .before .before .before .before in
+    let taken = marked .before .before .before .before .before in
+    let start = taken .before .before .before .before .before in
+    let region = taken .take .ensures .region in
+    (region, omega (arith, region .fits, ap length (start .pre .1 .0)))
 
 slice-aggregate-say : tie.Need-slice-aggregate-say
 slice-aggregate-say c = search needs

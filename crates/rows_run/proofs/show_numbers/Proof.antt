@@ -1,10 +1,10 @@
--- `sorting_run::show_numbers` meets its contract. The invariant: i is a place of the order, or its end.
+-- `rows_run::show_numbers` meets its contract. The invariant: i is a place of the order, or its end.
 -- Assumes nothing.
 use Prim.Native.Nat.{_≤_, _-_}
 use lib.ListN.{length}
 use borrow.Author.Needs.{needs}
-use Rattle.sorting_run.proofs.show_numbers.Statement.{statement}
-use Rattle.sorting_run.proofs.show_numbers.Tie as tie
+use Rattle.rows_run.proofs.show_numbers.Statement.{statement}
+use Rattle.rows_run.proofs.show_numbers.Tie as tie
 
 abbrev Inv-loop : tie.InvT-loop
 Inv-loop order i₀ i = i ≤ length order
@@ -24,8 +24,8 @@ shared-slice-read-wide c = search needs
 wide-requires : tie.Need-wide-requires Inv-loop μ-loop
 wide-requires c κs = search needs
 
-say-requires : tie.Need-say-requires Inv-loop μ-loop
-say-requires c κs = search needs
+word-requires : tie.Need-word-requires Inv-loop μ-loop
+word-requires c κs = search needs
 
 add-i : tie.Need-add-i Inv-loop μ-loop
 add-i c = search needs
@@ -52,7 +52,7 @@ show-numbers-spec =
     mul-wide
     shared-slice-read-wide
     wide-requires
-    say-requires
+    word-requires
     add-i
     loop-less
     loop-again
