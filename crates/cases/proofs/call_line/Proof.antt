@@ -18,23 +18,29 @@ returns c = search needs
 returns-2 : tie.Need-returns-2
 returns-2 c = search needs
 
-slice-aggregate-call-words : tie.Need-slice-aggregate-call-words
-slice-aggregate-call-words c = sym (length-take-le _ _ (c .before .before .if1 .left))
+slice-aggregate-call : tie.Need-slice-aggregate-call
+slice-aggregate-call c = sym (length-take-le _ _ (c .before .before .if1 .left))
 
-slice-relend-prefix-call-words : tie.Need-slice-relend-prefix-call-words
-slice-relend-prefix-call-words c = search needs
+slice-relend-prefix-call : tie.Need-slice-relend-prefix-call
+slice-relend-prefix-call c = search needs
 
-slice-aggregate-call-words-2 : tie.Need-slice-aggregate-call-words-2
-slice-aggregate-call-words-2 c = sym (length-take-le _ _ (c .before .before .if2 .left))
+slice-aggregate-call-2 : tie.Need-slice-aggregate-call-2
+slice-aggregate-call-2 c = sym (length-take-le _ _ (c .before .before .if2 .left))
 
 array-share-prefix-words : tie.Need-array-share-prefix-words
 array-share-prefix-words c = search needs
 
-slice-aggregate-call-words-3 : tie.Need-slice-aggregate-call-words-3
-slice-aggregate-call-words-3 c = sym (length-take-le _ _ (array-share-prefix-words (c .before)))
+slice-aggregate-call-3 : tie.Need-slice-aggregate-call-3
+slice-aggregate-call-3 c = sym (length-take-le _ _ (array-share-prefix-words (c .before)))
 
-call-words-requires : tie.Need-call-words-requires
-call-words-requires c κs = search needs
+call-requires : tie.Need-call-requires
+call-requires c κs = search needs
+
+slice-aggregate-print : tie.Need-slice-aggregate-print
+slice-aggregate-print c = search needs
+
+print-requires : tie.Need-print-requires
+print-requires c κs = search needs
 
 same-length : tie.Need-same-length
 same-length c = search needs
@@ -50,11 +56,13 @@ call-line-spec =
     count-of-requires
     returns
     returns-2
-    slice-aggregate-call-words
-    slice-relend-prefix-call-words
-    slice-aggregate-call-words-2
+    slice-aggregate-call
+    slice-relend-prefix-call
+    slice-aggregate-call-2
     array-share-prefix-words
-    slice-aggregate-call-words-3
-    call-words-requires
+    slice-aggregate-call-3
+    call-requires
+    slice-aggregate-print
+    print-requires
     same-length
     returns-3)

@@ -7,28 +7,22 @@ use Rattle.cases.proofs.print_words.Statement.{statement}
 use Rattle.cases.proofs.print_words.Tie as tie
 
 abbrev Inv-loop : tie.InvT-loop
-Inv-loop words i₀ t3 i = i ≤ length words
+Inv-loop words i₀ i = i ≤ length words
 
 abbrev μ-loop : tie.MeasureT-loop
-μ-loop words i₀ t3 i = length words - i
+μ-loop words i₀ i = length words - i
 
 loop-holds : tie.Need-loop-holds Inv-loop μ-loop
 loop-holds c = search needs
 
-slice-aggregate-print : tie.Need-slice-aggregate-print Inv-loop μ-loop
-slice-aggregate-print c = search needs
+mul-print-word : tie.Need-mul-print-word Inv-loop μ-loop
+mul-print-word c = search needs
 
-print-requires : tie.Need-print-requires Inv-loop μ-loop
-print-requires c κs = search needs
+shared-slice-read-print-word : tie.Need-shared-slice-read-print-word Inv-loop μ-loop
+shared-slice-read-print-word c = search needs
 
-mul-print-decimal : tie.Need-mul-print-decimal Inv-loop μ-loop
-mul-print-decimal c = search needs
-
-shared-slice-read-print-decimal : tie.Need-shared-slice-read-print-decimal Inv-loop μ-loop
-shared-slice-read-print-decimal c = search needs
-
-print-decimal-requires : tie.Need-print-decimal-requires Inv-loop μ-loop
-print-decimal-requires c κs = search needs
+print-word-requires : tie.Need-print-word-requires Inv-loop μ-loop
+print-word-requires c κs = search needs
 
 add-i : tie.Need-add-i Inv-loop μ-loop
 add-i c = search needs
@@ -49,11 +43,9 @@ print-words-spec =
     Inv-loop
     μ-loop
     loop-holds
-    slice-aggregate-print
-    print-requires
-    mul-print-decimal
-    shared-slice-read-print-decimal
-    print-decimal-requires
+    mul-print-word
+    shared-slice-read-print-word
+    print-word-requires
     add-i
     loop-less
     loop-again

@@ -19,17 +19,17 @@ loop-holds c = search needs
 line-end-requires : tie.Need-line-end-requires Inv-loop μ-loop
 line-end-requires c κs = search needs
 
-sub-run-line : tie.Need-sub-run-line Inv-loop μ-loop
-sub-run-line c = search needs
+sub-comment-or-line : tie.Need-sub-comment-or-line Inv-loop μ-loop
+sub-comment-or-line c = search needs
 
-part-run-line-start : tie.Need-part-run-line-start Inv-loop μ-loop
-part-run-line-start c = search needs
+part-comment-or-line-start : tie.Need-part-comment-or-line-start Inv-loop μ-loop
+part-comment-or-line-start c = search needs
 
-part-run-line-end : tie.Need-part-run-line-end Inv-loop μ-loop
-part-run-line-end c = search needs
+part-comment-or-line-end : tie.Need-part-comment-or-line-end Inv-loop μ-loop
+part-comment-or-line-end c = search needs
 
-run-line-requires : tie.Need-run-line-requires Inv-loop μ-loop
-run-line-requires c κs = search needs
+comment-or-line-requires : tie.Need-comment-or-line-requires Inv-loop μ-loop
+comment-or-line-requires c κs = search needs
 
 add-at : tie.Need-add-at Inv-loop μ-loop
 add-at c = search needs
@@ -57,10 +57,10 @@ run-spec =
     μ-loop
     loop-holds
     line-end-requires
-    sub-run-line
-    part-run-line-start
-    part-run-line-end
-    run-line-requires
+    sub-comment-or-line
+    part-comment-or-line-start
+    part-comment-or-line-end
+    comment-or-line-requires
     add-at
     loop-less
     loop-again

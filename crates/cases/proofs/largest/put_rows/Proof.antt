@@ -1,32 +1,35 @@
--- `fills::put_rows` is safe and ends.
+-- `put_rows` is safe and ends.
 -- Assumes nothing.
 use Prim.Native.Nat.{_-_, _≤_}
 use mathlib.Core.Path.{_≡_}
 use lib.ListN.{length}
 use borrow.Author.Needs.{needs}
-use Rattle.fills.proofs.put_rows.Statement.{statement}
-use Rattle.fills.proofs.put_rows.Tie as tie
+use Rattle.cases.proofs.largest.put_rows.Statement.{statement}
+use Rattle.cases.proofs.largest.put_rows.Tie as tie
 
 abbrev Inv-loop : tie.InvT-loop
-Inv-loop base₀ from₀ base from = (from ≤ 589823) × (589823 ≤ length base) × (length base ≡ length base₀)
+Inv-loop base₀ i₀ base i = (8 ≤ i) × (length base ≡ length base₀)
 
 abbrev μ-loop : tie.MeasureT-loop
-μ-loop base₀ from₀ base from = 589823 - from
-
-put-root-requires : tie.Need-put-root-requires Inv-loop μ-loop
-put-root-requires c κs = search needs
+μ-loop base₀ i₀ base i = length base₀ - i
 
 loop-holds : tie.Need-loop-holds Inv-loop μ-loop
 loop-holds c = search needs
 
-add-loop : tie.Need-add-loop Inv-loop μ-loop
-add-loop c = search needs
+sub-word : tie.Need-sub-word Inv-loop μ-loop
+sub-word c = search needs
 
-put-keys-requires : tie.Need-put-keys-requires Inv-loop μ-loop
-put-keys-requires c κs = search needs
+word-requires : tie.Need-word-requires Inv-loop μ-loop
+word-requires c κs = search needs
 
-add-from : tie.Need-add-from Inv-loop μ-loop
-add-from c = search needs
+mul-base : tie.Need-mul-base Inv-loop μ-loop
+mul-base c = search needs
+
+slice-write-base : tie.Need-slice-write-base Inv-loop μ-loop
+slice-write-base c = search needs
+
+add-i : tie.Need-add-i Inv-loop μ-loop
+add-i c = search needs
 
 loop-less : tie.Need-loop-less Inv-loop μ-loop
 loop-less c = search needs
@@ -46,11 +49,12 @@ put-rows-spec =
     (tie.spec
     Inv-loop
     μ-loop
-    put-root-requires
     loop-holds
-    add-loop
-    put-keys-requires
-    add-from
+    sub-word
+    word-requires
+    mul-base
+    slice-write-base
+    add-i
     loop-less
     loop-again
     same-length
