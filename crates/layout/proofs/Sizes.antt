@@ -146,4 +146,5 @@ module _ (ws : Words) (g : GoodSheet ws) where
     pub store-is : (b : ℕ) → b ≡ size (sheetOf ws) n → getD starts n 0 + b ≡ storeLength (sheetOf ws)
     unfolding storeLength
     store-is b h =
-        omega (arith, list-start .0, start-next (sheetOf ws) n, ap (λ (k : ℕ). start (sheetOf ws) (k + 1)) (n-is ws ∙ sym q), ap (start (sheetOf ws)) (add-one n))
+        let behind = ap (λ (k : ℕ). start (sheetOf ws) (k + 1)) (n-is ws ∙ sym q) in
+        omega (arith, list-start .0, start-next (sheetOf ws) n, ap (start (sheetOf ws)) (add-one n))
