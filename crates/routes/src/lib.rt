@@ -1,13 +1,22 @@
-// The route of a good sheet, from its plan: what a walk over a store reads; and all that a change below its tests rests on.
+// What a walk over a store reads of a good sheet's plan; and all that a change below its tests rests on.
 use layout::Plan;
-use ways::Route;
 ghost use mathlib.Core.Path.{_≡_};
 ghost use Prim.Native.Nat.{ℕ, _≤_};
 ghost use Rattle.meaning.specs.Sheet.{sheetOf};
 ghost use Rattle.sheet.specs.Tree.{GoodSheet};
 ghost use Rattle.ways.specs.Grounds.{Routed};
 ghost use Rattle.store.specs.Plans.{GoodPlan};
-ghost use Rattle.routes.specs.Arrays.{startOf, columnsOf};
+ghost use Rattle.routes.specs.Arrays.{startOf, routeOf};
+
+// The arrays that a walk is lent: the edges' numbers from the root outward; where each part of the store begins, and behind the list the store's
+// end; how many columns each part has; and at 8t + c the place of table t's column c among its shown ones.
+pub struct Route {
+    pub root: usize,
+    pub order: [usize; 8],
+    pub starts: [usize; 10],
+    pub columns: [usize; 9],
+    pub places: [usize; 64],
+}
 
 // Where each part of the store begins, and behind the list the store's end.
 fn start_of(plan: Plan) -> [usize; 10]
@@ -25,36 +34,23 @@ fn start_of(plan: Plan) -> [usize; 10]
     r
 }
 
-// How many columns each side table has.
-fn columns_of(plan: Plan) -> [usize; 8]
-    ensures { λ r. ⌜ r ≡ columnsOf plan ⌝ }
-{
-    let mut r = [0usize; 8];
-    let mut t = 0;
-    while t < 8 {
-        r[t] = plan.columns[t];
-        t += 1;
-    }
-    r
-}
-
 // The route of a good sheet.
 pub fn route_of(sheet: &[u64], plan: Plan) -> Route
     requires { ⌜ GoodSheet (now sheet) ⌝ }
     requires { ⌜ GoodPlan (sheetOf (now sheet)) plan ⌝ }
-    ensures { λ r. ⌜ Routed (now (sheet .entry)) r ⌝ }
+    ensures { λ r. ⌜ Routed (now (sheet .entry)) (routeOf r) ⌝ }
 {
     let root = plan.root;
     let order = outward::order_of(sheet, root);
-    let start = start_of(plan);
-    let columns = columns_of(plan);
+    let starts = start_of(plan);
+    let columns = plan.columns;
     let shows = plan.shows;
-    let place = outward::places_of(shows);
+    let places = outward::places_of(shows);
     Route {
         root: root,
         order: order,
-        start: start,
+        starts: starts,
         columns: columns,
-        place: place,
+        places: places,
     }
 }

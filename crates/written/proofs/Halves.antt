@@ -16,7 +16,6 @@ use Rattle.places.proofs.Stands.{sound-stands, stands-rows}
 use Rattle.effects.specs.Applied.{done}
 use Rattle.effects.proofs.Written.{done-words}
 use Rattle.layout.specs.declared.Plan.{Plan}
-use Rattle.ways.specs.declared.Route.{Route}
 use Rattle.ways.specs.Grounds.{Ground, Lent}
 use Rattle.ways.proofs.Grounds.{ground}
 use Rattle.store.specs.declared.Part.{Part}
@@ -25,14 +24,16 @@ use Rattle.store.specs.Plans.{partOf}
 use Rattle.store.proofs.Lying.{wrote-stands}
 use Rattle.store.proofs.Plans.{list-lies}
 use Rattle.side_table.specs.Sides.{Modelled, Sided}
+use Rattle.routes.specs.declared.Route.{Route}
+use Rattle.routes.specs.Arrays.{routeOf}
 use Rattle.routes.specs.Ready.{Ready}
 
 module _ {ws store : Words} {plan : Plan} {p : Route} (rd : Ready ws store plan p) where
   pub ready-good : Good (sheetOf ws)
   ready-good = rd .planned .good
 
-  pub ready-ground : Ground ws store p
-  ready-ground = ground ws store p (rd .sheet .not-refused) (rd .routed) (rd .sound)
+  pub ready-ground : Ground ws store (routeOf p)
+  ready-ground = ground ws store (routeOf p) (rd .sheet .not-refused) (rd .routed) (rd .sound)
 
   pub ready-tables : (plan .tables ≤ 8) × (plan .tables ≤ plan .tables)
   ready-tables = (rd .planned .planned .tables-few, omega arith)

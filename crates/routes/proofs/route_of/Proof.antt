@@ -12,18 +12,17 @@ order-of-requires c κs = (c .before .pre .0, c .before .pre .1 .planned .root-i
 start-of-requires : tie.Need-start-of-requires
 start-of-requires c κs = search needs
 
-columns-of-requires : tie.Need-columns-of-requires
-columns-of-requires c κs = search needs
-
 places-of-requires : tie.Need-places-of-requires
 places-of-requires c κs = search needs
 
 returns : tie.Need-returns
 returns c =
-    routed _ (c .before .before .before .before .before .before .pre .0) _ (c .before .before .before .before .before .before .pre .1) _ refl (c .before .before .before .before .order-of .ensures) (c .before .before .before .start-of .ensures)
-    (c .before .before .columns-of .ensures) (c .places-of .ensures)
+    let at-start-of = c .before .before .before in
+    let at-order-of = at-start-of .before in
+    let at-start = at-order-of .before .before in
+    routed _ (at-start .pre .0) _ (at-start .pre .1) _ refl (at-order-of .order-of .ensures) (at-start-of .start-of .ensures) refl (c .places-of .ensures)
 
 pub route-of-spec : {M : Type 1} → statement M
 route-of-spec =
     tie.close
-    (tie.spec order-of-requires start-of-requires columns-of-requires places-of-requires returns)
+    (tie.spec order-of-requires start-of-requires places-of-requires returns)
