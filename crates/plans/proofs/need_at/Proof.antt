@@ -1,9 +1,9 @@
 -- `need_at` meets its contract.
 -- Assumes nothing.
-use Rattle.layout.proofs.Sizes.{need-none, need-mark}
+use Rattle.plans.proofs.Marks.{need-none, need-mark}
 use borrow.Author.Needs.{needs}
-use Rattle.layout.proofs.need_at.Statement.{statement}
-use Rattle.layout.proofs.need_at.Tie as tie
+use Rattle.plans.proofs.need_at.Statement.{statement}
+use Rattle.plans.proofs.need_at.Tie as tie
 
 tables-requires : tie.Need-tables-requires
 tables-requires c κs = search needs
