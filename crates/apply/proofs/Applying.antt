@@ -24,7 +24,7 @@ use Rattle.sheet.specs.declared.Verdict.the-variants as Verdicts
 use Rattle.kinds.specs.Asked.{changeOf, askedOf}
 use Rattle.kinds.proofs.Tests.{asked-good, no-kind}
 use Rattle.layout.specs.declared.Plan.{Plan}
-use Rattle.ways.specs.declared.Route.{Route}
+use Rattle.routes.specs.declared.Route.{Route}
 use Rattle.ways.specs.Grounds.{Lent}
 use Rattle.store.specs.declared.Answer.{Answer}
 use Rattle.store.specs.Answers.{Says}

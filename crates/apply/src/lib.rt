@@ -1,8 +1,8 @@
 // A change below its tests, on a sound store: what it does to it and what it answers. The store is sound again after it.
 use layout::Plan;
+use routes::Route;
 use sheet::BAD_CHANGE;
 use store::Answer;
-use ways::Route;
 ghost use mathlib.Core.Path.{_≡_};
 ghost use Rattle.sheet.specs.declared.Verdict.the-variants.{Good};
 ghost use Rattle.kinds.specs.Asked.{changeOf, askedOf};

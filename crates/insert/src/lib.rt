@@ -1,9 +1,9 @@
 // An insert below its tests 1 to 7, on a sound store: contradiction, room, and then the list's rows and the side row.
 use layout::Plan;
+use routes::Route;
 use sheet::CONTRADICTION;
 use sheet::NO_ROOM;
 use store::Answer;
-use ways::Route;
 ghost use Rattle.routes.specs.Ready.{Ready};
 ghost use Rattle.ways.specs.Grounds.{Lent};
 ghost use Rattle.insert.specs.Inserts.{Inserts};
@@ -24,7 +24,7 @@ pub fn insert(
     if !side_table::new_key(sheet, plan, store, table, row) {
         return Answer::Refused(CONTRADICTION);
     }
-    if !ways::is_qualified(sheet, route, store, table, row) {
+    if !ways::is_qualified(sheet, &route.starts, &route.columns, store, table, row) {
         return Answer::Done(0, 0);
     }
     if !side_table::has_room(sheet, plan, store, table) {
@@ -33,11 +33,32 @@ pub fn insert(
     let list = store::part_of(plan, plan.tables);
     let slot = list.slot;
     let count = store[slot] as usize;
-    let added = added::count_ways(sheet, route, store, table, row);
+    let added = added::count_ways(
+        sheet,
+        route.root,
+        &route.order,
+        &route.starts,
+        &route.columns,
+        &route.places,
+        store,
+        table,
+        row,
+    );
     if list.room - count < added {
         return Answer::Refused(NO_ROOM);
     }
-    added::add_ways(sheet, route, store, list, table, row);
+    added::add_ways(
+        sheet,
+        route.root,
+        &route.order,
+        &route.starts,
+        &route.columns,
+        &route.places,
+        store,
+        list,
+        table,
+        row,
+    );
     side_table::put_side(sheet, plan, store, table, row);
     Answer::Done(0, added as u64)
 }
