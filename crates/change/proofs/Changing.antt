@@ -23,7 +23,7 @@ use Rattle.layout.specs.declared.Checked.{Checked}
 use Rattle.layout.specs.Plans.{checkedOf}
 use Rattle.kinds.specs.Asked.{askedOf}
 use Rattle.kinds.proofs.Tests.{asked-good}
-use Rattle.ways.specs.declared.Route.{Route}
+use Rattle.routes.specs.declared.Route.{Route}
 use Rattle.ways.specs.Grounds.{Routed}
 use Rattle.store.specs.declared.Answer.{Answer}
 use Rattle.store.specs.declared.Answer.the-variants.{Refused}
@@ -32,6 +32,7 @@ use Rattle.store.specs.Plans.{GoodPlan, SoundIs}
 use Rattle.store.proofs.Answers.{says-once, says-refused}
 use Rattle.store.proofs.Checks.{check-good, check-plan, check-refused, check-numbered}
 use Rattle.store.proofs.Plans.{store-is}
+use Rattle.routes.specs.Arrays.{routeOf}
 use Rattle.routes.specs.Ready.{Ready}
 use Rattle.apply.specs.Applies.{Applies}
 
@@ -99,7 +100,7 @@ module _ (sheet store : Words) (c : Change) (k : Checked) (e : k ≡ checkedOf s
               says-refused (change sheet store c) 7 store (λ z. omega arith) (refuses-7 sheet store c good (l ∙ long-is) (tests .0) (tests .1) (found ∙ f))
 
           module _ (t : b ≡ true) where
-            pub is-ready : (p : Route) → Routed sheet p → Ready sheet store (k .plan) p
+            pub is-ready : (p : Route) → Routed sheet (routeOf p) → Ready sheet store (k .plan) p
             is-ready p r = record { sheet = sheet-good sheet k e g; planned = plan; routed = r; sound = isT (found ∙ t) }
 
             pub says-applied : (o : Answer) (exit : Words) → Applies sheet store c o exit → Says (change sheet store c) o exit

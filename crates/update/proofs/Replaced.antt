@@ -21,7 +21,7 @@ use Rattle.effects.specs.Applied.{replacedRows}
 use Rattle.effects.proofs.Marking.{replaced-walks, shows-walks}
 use Rattle.layout.specs.declared.Plan.{Plan}
 use Rattle.list_part.specs.Gives.{gives, given}
-use Rattle.ways.specs.declared.Route.{Route}
+use Rattle.routes.specs.declared.Route.{Route}
 use Rattle.ways.specs.Climbing.{ByKey}
 use Rattle.store.specs.declared.Part.{Part}
 use Rattle.store.specs.Parts.{stopOf, wordsIn, countIn, rowsIn, Kept, Wrote}

@@ -23,7 +23,7 @@ use Rattle.effects.proofs.Rows.{side-there}
 use Rattle.effects.proofs.Updates.{update-contradicts-side, update-none, update-contradicts-shown, update-contradicts-list, update-done}
 use Rattle.layout.specs.declared.Plan.{Plan}
 use Rattle.list_part.specs.Gives.{gives}
-use Rattle.ways.specs.declared.Route.{Route}
+use Rattle.routes.specs.declared.Route.{Route}
 use Rattle.ways.specs.Grounds.{Lent}
 use Rattle.store.specs.declared.Part.{Part}
 use Rattle.store.specs.declared.Answer.the-variants.{Done, Refused}
