@@ -56,21 +56,29 @@ module _ (s : Sheet) where
     pub goes : edge .parent ≡ u
     pub from : (edge .child ≡ t) ⊎ Mem (edge .child) (depPlusIn s k t)
 
+  -- a path of one edge
+  one-edge : (k t u p : ℕ) → Mem p (dep s t) → u ≡ p → LastEdge k t u
+  one-edge k t u p d e =
+      let x = dep-edge t p d in
+      record { edge = x .edge; there = x .there; promised = x .promised; goes = x .goes ∙ sym e; from = inl (x .leaves) }
+
   pub last-edge : (k t u : ℕ) → Mem u (depPlusIn s (suc k) t) → LastEdge k t u
   last-edge zero t u m = go (first-step zero t u m)
     where
       go : (p : ℕ) × Mem p (dep s t) × ((u ≡ p) ⊎ Mem u (depPlusIn s zero p)) → LastEdge zero t u
-      go (p, d, inl e) = let x = dep-edge t p d in record { edge = x .edge; there = x .there; promised = x .promised; goes = x .goes ∙ sym e; from = inl (x .leaves) }
+      go (p, d, inl e) = one-edge zero t u p d e
       go (p, d, inr k) = absurd k
   last-edge (suc k) t u m = go (first-step (suc k) t u m) (λ p q. last-edge k p u q)
     where
-      go : (p : ℕ) × Mem p (dep s t) × ((u ≡ p) ⊎ Mem u (depPlusIn s (suc k) p)) → ((p : ℕ) → Mem u (depPlusIn s (suc k) p) → LastEdge k p u) → LastEdge (suc k) t u
-      go (p, d, inl e) ih = let x = dep-edge t p d in record { edge = x .edge; there = x .there; promised = x .promised; goes = x .goes ∙ sym e; from = inl (x .leaves) }
+      go : (p : ℕ) × Mem p (dep s t) × ((u ≡ p) ⊎ Mem u (depPlusIn s (suc k) p))
+          → ((p : ℕ) → Mem u (depPlusIn s (suc k) p) → LastEdge k p u) → LastEdge (suc k) t u
+      go (p, d, inl e) ih = one-edge (suc k) t u p d e
       go (p, d, inr m) ih =
           let x = ih p m in
           record { edge = x .edge; there = x .there; promised = x .promised; goes = x .goes; from = inr (step-first k t (x .edge .child) p d (x .from)) }
 
-  pub add-edge : (k t : ℕ) (e : Edge) → Mem e (s .edges) → T (isPromised e) → (e .child ≡ t) ⊎ Mem (e .child) (depPlusIn s k t) → Mem (e .parent) (depPlusIn s (suc k) t)
+  pub add-edge : (k t : ℕ) (e : Edge) → Mem e (s .edges) → T (isPromised e)
+      → (e .child ≡ t) ⊎ Mem (e .child) (depPlusIn s k t) → Mem (e .parent) (depPlusIn s (suc k) t)
   add-edge zero t e m h from = go from
     where
       go : (e .child ≡ t) ⊎ Mem (e .child) (depPlusIn s zero t) → Mem (e .parent) (depPlusIn s 1 t)
@@ -79,6 +87,7 @@ module _ (s : Sheet) where
   add-edge (suc k) t e m h from = go from (λ p r. add-edge k p e m h r)
     where
       go : (e .child ≡ t) ⊎ Mem (e .child) (depPlusIn s (suc k) t)
-          → ((p : ℕ) → (e .child ≡ p) ⊎ Mem (e .child) (depPlusIn s k p) → Mem (e .parent) (depPlusIn s (suc k) p)) → Mem (e .parent) (depPlusIn s (suc (suc k)) t)
+          → ((p : ℕ) → (e .child ≡ p) ⊎ Mem (e .child) (depPlusIn s k p) → Mem (e .parent) (depPlusIn s (suc k) p))
+          → Mem (e .parent) (depPlusIn s (suc (suc k)) t)
       go (inl q) ih = step-first (suc k) t (e .parent) (e .parent) (subst (λ (c : ℕ). Mem (e .parent) (dep s c)) q (edge-dep e m h)) (inl refl)
       go (inr q) ih = let x = first-step k t (e .child) q in step-first (suc k) t (e .parent) (x .0) (x .1) (inr (ih (x .0) (x .2)))

@@ -2,7 +2,7 @@
 -- Assumes nothing.
 use Prim.Native.Nat.{ℕ, zero, suc, _+_, _-_, _<_, _≤_}
 use mathlib.Core.Path.{_≡_, refl, sym, ap, ap₂, subst, _∙_}
-use mathlib.Core.Bool.{Bool, true, false, cond, not, _&&_, _||_, Bool·not-not}
+use mathlib.Core.Bool.{Bool, true, false, cond, not, _&&_, _||_, and-false, Bool·not-not}
 use mathlib.Core.List.{List, [], _∷_}
 use mathlib.Core.Logic.{_⊎_, inl, inr}
 use native.Mathlib.Numerals.{sub-one}
@@ -12,18 +12,20 @@ use lib.ListN.{length}
 use borrow.Author.Tests.{eqb-true, eq-eqb, ne-eqb}
 use Rattle.lists.specs.Lists.{Words, at, all, any, select, member, upTo}
 use Rattle.lists.specs.Loops.{every, some, first}
-use Rattle.lists.proofs.Loops.{and-true}
 use Rattle.lists.proofs.Truth.{Mem, T→≡, F→≡, same-test, mem-map, mem-upTo, select-mem, member→Mem, Mem→member, eq→eqb, eqb→≡}
 use Rattle.laws.proofs.Lists.{any-select}
-use Rattle.meaning.specs.Sheet.{Edge, Sheet, sheetOf, goesInto, leaves, edgesInto, isRoot, tableCount, edgeCount, listedCount}
+use Rattle.meaning.specs.Sheet as Meant
+use Rattle.meaning.specs.Sheet.{Sheet, sheetOf, goesInto, leaves, edgesInto, isRoot, tableCount, edgeCount, listedCount}
 use Rattle.meaning.specs.Plan.{root, edgeInto, others, isPromised, depPlus, depPlusIn, isListed, names, need, needIn, kept, isShown}
+use Rattle.sheet.specs.declared.reading.Edge.{Edge}
+use Rattle.sheet.specs.Read.{ReadsEdge}
 use Rattle.sheet.specs.Numbered.{edgeNo, listingNo}
 use Rattle.sheet.specs.Tests.{listingNames}
 use Rattle.sheet.proofs.Numbers.{member-chosen, any-up, all-upTo, any-upTo, found, not-found, first-passes}
 use Rattle.sheet.proofs.Words.{n-is, edges-are, listed-are}
 use Rattle.sheet.specs.Tree.{goesNo, Joined, GoodSheet}
 use Rattle.sheet.proofs.Into.{into-none, into-first, into-only}
-use Rattle.derive.specs.Derived.{depNo, needNo, restsOn, neededBy, keptNo, leavesBy, shownNo}
+use Rattle.derive.specs.Derived.{depNo, listedNo, needNo, restsOn, neededBy, keptNo, leavesBy, shownNo}
 use Rattle.derive.proofs.Paths.{LastEdge, last-edge, add-edge}
 
 -- a test that is false because it cannot be passed
@@ -50,7 +52,8 @@ dep-end ws t u left z = rw z
 
 -- edge i is one of the sheet's
 pub edge-there : (ws : Words) (i : ℕ) → i < edgeCount ws → Mem (edgeNo ws i) (sheetOf ws .edges)
-edge-there ws i h = subst (λ (l : List Edge). Mem (edgeNo ws i) l) (sym (edges-are ws)) (mem-map (edgeNo ws) (upTo (edgeCount ws)) i (mem-upTo (edgeCount ws) i h))
+edge-there ws i h =
+    subst (λ (l : List Meant.Edge). Mem (edgeNo ws i) l) (sym (edges-are ws)) (mem-map (edgeNo ws) (upTo (edgeCount ws)) i (mem-upTo (edgeCount ws) i h))
 
 module _ (ws : Words) (u i : ℕ) (e : i ≡ first (goesNo ws u) (edgeCount ws)) where
   -- the edge found goes into u
@@ -59,13 +62,13 @@ module _ (ws : Words) (u i : ℕ) (e : i ≡ first (goesNo ws u) (edgeCount ws))
   goes-there h = eqb-true _ _ (rw (← e) at (first-passes (goesNo ws u) (edgeCount ws) (found _ _ i e h) .1))
 
   -- an edge into u is the one found
-  pub the-edge : Joined ws → i < edgeCount ws → (x : Edge) → Mem x (sheetOf ws .edges) → x .parent ≡ u → x ≡ edgeNo ws i
+  pub the-edge : Joined ws → i < edgeCount ws → (x : Meant.Edge) → Mem x (sheetOf ws .edges) → x .parent ≡ u → x ≡ edgeNo ws i
   the-edge j h x m q =
       let l : u < tableCount ws = omega (arith, goes-there h, j .rules .edges i h .parent-in) in
       only (into-only ws u i e (j .one-into u l) h) (select-mem (goesInto u) (sheetOf ws .edges) x m (eq→eqb q))
     where
       only : edgesInto (sheetOf ws) u ≡ edgeNo ws i ∷ [] → Mem x (edgesInto (sheetOf ws) u) → x ≡ edgeNo ws i
-      only r k = go (subst (λ (l : List Edge). Mem x l) r k)
+      only r k = go (subst (λ (l : List Meant.Edge). Mem x l) r k)
         where
           go : Mem x (edgeNo ws i ∷ []) → x ≡ edgeNo ws i
           go (inl z) = z
@@ -79,47 +82,58 @@ module _ (ws : Words) (u i : ℕ) (e : i ≡ first (goesNo ws u) (edgeCount ws))
     dep-none (suc left) h = fails (depNo ws (suc left) t u) (λ m. go (last-edge (sheetOf ws) left t u (dep-mem ws (suc left) t u m)))
       where
         go : LastEdge (sheetOf ws) left t u → ⊥
-        go x = subst (λ (l : List Edge). Mem (x .edge) l) (into-none ws u i e h) (select-mem (goesInto u) (sheetOf ws .edges) (x .edge) (x .there) (eq→eqb (x .goes)))
+        go x =
+            subst (λ (l : List Meant.Edge). Mem (x .edge) l) (into-none ws u i e h)
+            (select-mem (goesInto u) (sheetOf ws .edges) (x .edge) (x .there) (eq→eqb (x .goes)))
 
-    module _ (j : Joined ws) (h : i < edgeCount ws) where
-      pub dep-loose : (left : ℕ) → (edgeNo ws i .promise ≡ 1 → ⊥) → false ≡ depNo ws left t u
+    module _ (j : Joined ws) (h : i < edgeCount ws) {x : Edge} (r : ReadsEdge ws i x) where
+      pub dep-loose : (left : ℕ) → (x .promise ≡ 1 → ⊥) → false ≡ depNo ws left t u
       unfolding depNo
       dep-loose zero n = refl
       dep-loose (suc left) n = fails (depNo ws (suc left) t u) (λ m. go (last-edge (sheetOf ws) left t u (dep-mem ws (suc left) t u m)))
         where
           go : LastEdge (sheetOf ws) left t u → ⊥
-          go x = n (eqb→≡ _ _ (subst (λ (y : Edge). T (isPromised y)) (the-edge j h (x .edge) (x .there) (x .goes)) (x .promised)))
+          go l = n (r .promise-is ∙ eqb→≡ _ _ (subst (λ (y : Meant.Edge). T (isPromised y)) (the-edge j h (l .edge) (l .there) (l .goes)) (l .promised)))
 
       -- the promised edge found is the last on a path
-      dep-by : (left : ℕ) → edgeNo ws i .promise ≡ 1 → (edgeNo ws i .child ≡ t) ⊎ Mem (edgeNo ws i .child) (depPlusIn (sheetOf ws) left t) → T (depNo ws (suc left) t u)
+      dep-by : (left : ℕ) → x .promise ≡ 1 → (x .child ≡ t) ⊎ Mem (x .child) (depPlusIn (sheetOf ws) left t) → T (depNo ws (suc left) t u)
       dep-by left p from =
           mem-dep ws (suc left) t u (subst (λ (v : ℕ). Mem v (depPlusIn (sheetOf ws) (suc left) t)) (goes-there h)
-          (add-edge (sheetOf ws) left t (edgeNo ws i) (edge-there ws i h) (eq→eqb p) from))
+          (add-edge (sheetOf ws) left t (edgeNo ws i) (edge-there ws i h) (eq→eqb (sym (r .promise-is) ∙ p))
+          (subst (λ (v : ℕ). (v ≡ t) ⊎ Mem v (depPlusIn (sheetOf ws) left t)) (r .child-is) from)))
 
-      pub dep-here : (left : ℕ) → (left ≡ 0 → ⊥) → edgeNo ws i .promise ≡ 1 → edgeNo ws i .child ≡ t → true ≡ depNo ws left t u
+      pub dep-here : (left : ℕ) → (left ≡ 0 → ⊥) → x .promise ≡ 1 → x .child ≡ t → true ≡ depNo ws left t u
       dep-here zero z p q = absurd (z refl)
       dep-here (suc left) z p q = sym (T→≡ (depNo ws (suc left) t u) (dep-by left p (inl q)))
 
-      pub dep-on : (left : ℕ) (b : Bool) → (left ≡ 0 → ⊥) → edgeNo ws i .promise ≡ 1 → (edgeNo ws i .child ≡ t → ⊥)
-          → b ≡ depNo ws (left - 1) t (edgeNo ws i .child) → b ≡ depNo ws left t u
+      pub dep-on : (left : ℕ) (b : Bool) → (left ≡ 0 → ⊥) → x .promise ≡ 1 → (x .child ≡ t → ⊥) → b ≡ depNo ws (left - 1) t (x .child) → b ≡ depNo ws left t u
       dep-on zero b z p q w = absurd (z refl)
       dep-on (suc left) b z p q w =
-          w ∙ ap (λ (k : ℕ). depNo ws k t (edgeNo ws i .child)) (sub-one (suc left))
-          ∙ same-test (depNo ws left t (edgeNo ws i .child)) (depNo ws (suc left) t u)
-          (λ m. dep-by left p (inr (dep-mem ws left t (edgeNo ws i .child) m)))
-          (λ m. mem-dep ws left t (edgeNo ws i .child) (back (last-edge (sheetOf ws) left t u (dep-mem ws (suc left) t u m))))
+          w ∙ ap (λ (k : ℕ). depNo ws k t (x .child)) (sub-one (suc left))
+          ∙ same-test (depNo ws left t (x .child)) (depNo ws (suc left) t u)
+          (λ m. dep-by left p (inr (dep-mem ws left t (x .child) m)))
+          (λ m. mem-dep ws left t (x .child) (back (last-edge (sheetOf ws) left t u (dep-mem ws (suc left) t u m))))
         where
-          back : LastEdge (sheetOf ws) left t u → Mem (edgeNo ws i .child) (depPlusIn (sheetOf ws) left t)
-          back x = go (subst (λ (y : Edge). (y .child ≡ t) ⊎ Mem (y .child) (depPlusIn (sheetOf ws) left t)) (the-edge j h (x .edge) (x .there) (x .goes)) (x .from))
+          back : LastEdge (sheetOf ws) left t u → Mem (x .child) (depPlusIn (sheetOf ws) left t)
+          back l =
+              go (subst (λ (v : ℕ). (v ≡ t) ⊎ Mem v (depPlusIn (sheetOf ws) left t))
+              (ap (λ (y : Meant.Edge). y .child) (the-edge j h (l .edge) (l .there) (l .goes)) ∙ sym (r .child-is)) (l .from))
             where
-              go : (edgeNo ws i .child ≡ t) ⊎ Mem (edgeNo ws i .child) (depPlusIn (sheetOf ws) left t) → Mem (edgeNo ws i .child) (depPlusIn (sheetOf ws) left t)
-              go (inl r) = absurd (q r)
-              go (inr r) = r
+              go : (x .child ≡ t) ⊎ Mem (x .child) (depPlusIn (sheetOf ws) left t) → Mem (x .child) (depPlusIn (sheetOf ws) left t)
+              go (inl e) = absurd (q e)
+              go (inr m) = m
 
--- a column is listed exactly if some listing names it
-pub listed-is : (ws : Words) (t c : ℕ) → isListed (sheetOf ws) t c ≡ some (listingNames ws t c) (listedCount ws)
-unfolding listingNames
-listed-is ws t c = ap (any (names t c)) (listed-are ws) ∙ any-up (names t c) (listingNo ws) (listedCount ws)
+-- a column is listed exactly if some listing names it: the first that does is found among all
+module _ (ws : Words) (t c l p : ℕ) (q : p ≡ listedCount ws) (e : l ≡ first (listingNames ws t c) p) where
+  listed-is : listedNo ws t c ≡ some (listingNames ws t c) p
+  unfolding listedNo listingNames
+  listed-is = ap (any (names t c)) (listed-are ws) ∙ any-up (names t c) (listingNo ws) (listedCount ws) ∙ ap (some (listingNames ws t c)) (sym q)
+
+  pub listed-yes : l < p → true ≡ listedNo ws t c
+  listed-yes h = sym (listed-is ∙ found _ p l e h)
+
+  pub listed-no : p ≤ l → false ≡ listedNo ws t c
+  listed-no h = sym (listed-is ∙ not-found _ p l e h)
 
 -- the edge into a table, and whether it is the root
 module _ (ws : Words) (t i : ℕ) (e : i ≡ first (goesNo ws t) (edgeCount ws)) where
@@ -145,32 +159,38 @@ pub need-end : (ws : Words) (t u left : ℕ) → left ≡ 0 → false ≡ needNo
 unfolding needNo
 need-end ws t u left z = rw z
 
-module _ (ws : Words) (t u l : ℕ) (le : l ≡ first (listingNames ws t 0) (listedCount ws)) where
-  pub need-listed : (left : ℕ) → (left ≡ 0 → ⊥) → l < listedCount ws → false ≡ needNo ws left t u
-  unfolding needNo
+module _ (ws : Words) (t u : ℕ) where
+  pub need-listed : (left : ℕ) → (left ≡ 0 → ⊥) → listedNo ws t 0 ≡ true → false ≡ needNo ws left t u
+  unfolding listedNo needNo
   need-listed zero z h = absurd (z refl)
-  need-listed (suc left) z h = rw (listed-is ws t 0 ∙ found _ _ l le h)
+  need-listed (suc left) z h = rw h
 
   -- otherwise t is the root, or the walk goes to the child of the edge into it
-  module _ (g : GoodSheet ws) (h : t < tableCount ws) (unlisted : listedCount ws ≤ l) (i : ℕ) (ie : i ≡ first (goesNo ws t) (edgeCount ws)) where
-    pub need-root : (left : ℕ) → (left ≡ 0 → ⊥) → edgeCount ws ≤ i → (ltb u (tableCount ws) && not (eqb u t)) ≡ needNo ws left t u
-    unfolding needNo
-    need-root zero z r = absurd (z refl)
-    need-root (suc left) z r =
-        rw (listed-is ws t 0 ∙ not-found _ _ l le unlisted, root-yes ws t i ie g h r, member-others (sheetOf ws) t u, n-is ws)
+  module _ (g : GoodSheet ws) (h : t < tableCount ws) (unlisted : listedNo ws t 0 ≡ false) (i : ℕ) (ie : i ≡ first (goesNo ws t) (edgeCount ws)) where
+    pub need-root : (left n : ℕ) → (left ≡ 0 → ⊥) → edgeCount ws ≤ i → n ≡ tableCount ws → (ltb u n && not (eqb u t)) ≡ needNo ws left t u
+    unfolding listedNo needNo
+    need-root zero n z r m = absurd (z refl)
+    need-root (suc left) n z r m = rw (unlisted, root-yes ws t i ie g h r, member-others (sheetOf ws) t u, n-is ws ∙ sym m)
 
-    pub need-child : (left : ℕ) → (left ≡ 0 → ⊥) → i < edgeCount ws → edgeNo ws i .child ≡ u → true ≡ needNo ws left t u
-    unfolding needNo
-    need-child zero z r q = absurd (z refl)
-    need-child (suc left) z r q =
-        rw (listed-is ws t 0 ∙ not-found _ _ l le unlisted, root-no ws t i ie g r, edge-is ws t i ie r, eq-eqb u (edgeNo ws i .child) (sym q))
+    module _ (r : i < edgeCount ws) {x : Edge} (reads : ReadsEdge ws i x) where
+      pub need-child : (left : ℕ) → (left ≡ 0 → ⊥) → x .child ≡ u → true ≡ needNo ws left t u
+      unfolding listedNo needNo
+      need-child zero z q = absurd (z refl)
+      need-child (suc left) z q =
+          rw (unlisted, root-no ws t i ie g r, edge-is ws t i ie r, ← reads .child-is, eq-eqb u (x .child) (sym q))
 
-    pub need-on : (left : ℕ) (b : Bool) → (left ≡ 0 → ⊥) → i < edgeCount ws → (edgeNo ws i .child ≡ u → ⊥)
-        → b ≡ needNo ws (left - 1) (edgeNo ws i .child) u → b ≡ needNo ws left t u
-    unfolding needNo
-    need-on zero b z r q w = absurd (z refl)
-    need-on (suc left) b z r q w =
-        rw (listed-is ws t 0 ∙ not-found _ _ l le unlisted, root-no ws t i ie g r, edge-is ws t i ie r, ne-eqb u (edgeNo ws i .child) (λ k. q (sym k)), ← sub-one (suc left)) w
+      pub need-on : (left : ℕ) (b : Bool) → (left ≡ 0 → ⊥) → (x .child ≡ u → ⊥) → b ≡ needNo ws (left - 1) (x .child) u → b ≡ needNo ws left t u
+      unfolding listedNo needNo
+      need-on zero b z q w = absurd (z refl)
+      need-on (suc left) b z q w =
+          rw (
+            unlisted,
+            root-no ws t i ie g r,
+            edge-is ws t i ie r,
+            ← reads .child-is,
+            ne-eqb u (x .child) (λ k. q (sym k)),
+            ← sub-one (suc left),
+          ) w
 
 -- tests of what is chosen
 module _ {A : Type 0} where
@@ -208,13 +228,15 @@ module _ (ws : Words) (t u : ℕ) where
   unfolding restsOn
   rests-self q = rw (eq-eqb u t q)
 
-  pub rests-dep : (b : Bool) → (u ≡ t → ⊥) → b ≡ depNo ws (tableCount ws) t u → restsOn ws t u ≡ b
-  unfolding restsOn depNo depPlus
-  rests-dep b q e = rw (ne-eqb u t q) (ap (λ (k : ℕ). member u (depPlusIn (sheetOf ws) k t)) (n-is ws) ∙ sym e)
+  -- paths through as many tables as there are
+  module _ {n : ℕ} (m : n ≡ tableCount ws) where
+    pub rests-dep : (b : Bool) → (u ≡ t → ⊥) → b ≡ depNo ws n t u → restsOn ws t u ≡ b
+    unfolding restsOn depNo depPlus
+    rests-dep b q e = rw (ne-eqb u t q) (ap (λ (k : ℕ). member u (depPlusIn (sheetOf ws) k t)) (n-is ws ∙ sym m) ∙ sym e)
 
-  pub needed-is : (b : Bool) → b ≡ needNo ws (tableCount ws) u t → neededBy ws t u ≡ b
-  unfolding neededBy needNo need
-  needed-is b e = ap (λ (k : ℕ). member t (needIn (sheetOf ws) k u)) (n-is ws) ∙ sym e
+    pub needed-is : (b : Bool) → b ≡ needNo ws n u t → neededBy ws t u ≡ b
+    unfolding neededBy needNo need
+    needed-is b e = ap (λ (k : ℕ). member t (needIn (sheetOf ws) k u)) (n-is ws ∙ sym m) ∙ sym e
 
 module _ (ws : Words) (t : ℕ) where
   pub kept-free : every (restsOn ws t) (tableCount ws) ≡ false → true ≡ keptNo ws t
@@ -224,23 +246,23 @@ module _ (ws : Words) (t : ℕ) where
   kept-needed b h e = rw (kept-is ws t, h, ← e) (sym (Bool·not-not b))
 
 -- shown, by number
-pub shown-is : (ws : Words) (t c : ℕ) → shownNo ws t c ≡ (eqb c 0 || some (leavesBy ws t c) (edgeCount ws) || some (listingNames ws t c) (listedCount ws))
-unfolding shownNo isShown leavesBy
+pub shown-is : (ws : Words) (t c : ℕ) → shownNo ws t c ≡ (eqb c 0 || some (leavesBy ws t c) (edgeCount ws) || listedNo ws t c)
+unfolding shownNo isShown leavesBy listedNo
 shown-is ws t c =
-    ap₂ (λ a b. eqb c 0 || a || b)
+    ap (λ a. eqb c 0 || a || isListed (sheetOf ws) t c)
     (any-select (λ e. eqb (e .column) c) (leaves t) (sheetOf ws .edges) ∙ ap (any (λ e. leaves t e && eqb (e .column) c)) (edges-are ws)
     ∙ any-up (λ e. leaves t e && eqb (e .column) c) (edgeNo ws) (edgeCount ws))
-    (listed-is ws t c)
 
--- edge i leaves table t by column c
-pub record Leaves (ws : Words) (t c i : ℕ) : Type 0 where
-  pub table : edgeNo ws i .child ≡ t
-  pub column : edgeNo ws i .column ≡ c
+-- an edge read leaves table t by column c, or not
+module _ (ws : Words) (t c i : ℕ) {x : Edge} (r : ReadsEdge ws i x) where
+  pub leaves-yes : x .child ≡ t → x .column ≡ c → leavesBy ws t c i ≡ true
+  unfolding leavesBy
+  leaves-yes p q = rw (eq-eqb _ _ (sym (r .child-is) ∙ p), eq-eqb _ _ (sym (r .column-is) ∙ q))
 
-pub leaves-facts : (ws : Words) (t c i : ℕ) → leavesBy ws t c i ≡ true → Leaves ws t c i
-unfolding leavesBy
-leaves-facts ws t c i h = let a = and-true _ _ h in record { table = eqb-true _ _ (a .0); column = eqb-true _ _ (a .1) }
+  pub leaves-other : (x .child ≡ t → ⊥) → leavesBy ws t c i ≡ false
+  unfolding leavesBy
+  leaves-other p = rw (ne-eqb _ _ (λ e. p (r .child-is ∙ e)))
 
-pub leaves-make : (ws : Words) (t c i : ℕ) → Leaves ws t c i → leavesBy ws t c i ≡ true
-unfolding leavesBy
-leaves-make ws t c i h = rw (eq-eqb _ _ (h .table), eq-eqb _ _ (h .column))
+  pub leaves-elsewhere : (x .column ≡ c → ⊥) → leavesBy ws t c i ≡ false
+  unfolding leavesBy
+  leaves-elsewhere q = rw (ne-eqb (edgeNo ws i .column) c (λ e. q (r .column-is ∙ e))) (and-false (leaves t (edgeNo ws i)))

@@ -5,12 +5,16 @@ use mathlib.Core.Bool.{Bool, _&&_, _||_}
 use lib.Dec.{eqb}
 use Rattle.lists.specs.Lists.{Words, member}
 use Rattle.meaning.specs.Sheet.{sheetOf, leaves}
-use Rattle.meaning.specs.Plan.{depPlus, depPlusIn, need, needIn, kept, isShown}
+use Rattle.meaning.specs.Plan.{depPlus, depPlusIn, isListed, need, needIn, kept, isShown}
 use Rattle.sheet.specs.Numbered.{edgeNo}
 
 -- u is in Dep+(t), over paths of at most k edges
 unfoldable pub depNo : Words → ℕ → ℕ → ℕ → Bool
 depNo ws k t u = member u (depPlusIn (sheetOf ws) k t)
+
+-- the list shows column c of table t
+unfoldable pub listedNo : Words → ℕ → ℕ → Bool
+listedNo ws t c = isListed (sheetOf ws) t c
 
 -- u is in Need(t), with k tables left on the path
 unfoldable pub needNo : Words → ℕ → ℕ → ℕ → Bool

@@ -3,21 +3,20 @@ ghost use mathlib.Core.Path.{_≡_};
 ghost use mathlib.Core.Bool.{not, _&&_};
 ghost use lib.Dec.{eqb, ltb};
 ghost use Prim.Native.Nat.{ℕ, _<_};
-ghost use Rattle.lists.specs.Lists.{at};
 ghost use Rattle.lists.specs.Loops.{every, some};
 ghost use Rattle.meaning.specs.Sheet.{sheetOf, tableCount, edgeCount};
 ghost use Rattle.meaning.specs.Plan.{root};
 ghost use Rattle.sheet.specs.Rules.{Counts};
 ghost use Rattle.sheet.specs.Tree.{Joined, GoodSheet};
-ghost use Rattle.derive.specs.Derived.{depNo, needNo, restsOn, neededBy, keptNo, leavesBy, shownNo};
+ghost use Rattle.derive.specs.Derived.{depNo, listedNo, needNo, restsOn, neededBy, keptNo, leavesBy, shownNo};
 
 // The table with no edge into it.
-pub fn root_of(sheet: &[u64]) -> u64
+pub fn root_of(sheet: &[u64]) -> usize
     requires { ⌜ GoodSheet (now sheet) ⌝ }
     ensures { λ t. ⌜ t ≡ root (sheetOf (now (sheet .entry))) ⌝ }
 {
-    let n = sheet[0];
-    let e = sheet[1] as usize;
+    let n = sheet::tables(sheet);
+    let e = sheet::edges(sheet);
     let mut t = 0;
     while t < n {
         if e <= sheet::edge_into(sheet, t) {
@@ -30,7 +29,7 @@ pub fn root_of(sheet: &[u64]) -> u64
 
 // Whether u is in Dep+(t), over paths of at most `left` edges (with 1: in Dep(t)). The walk goes from u, by the one edge
 // into it, back towards t, and each step leaves a shorter path.
-pub fn depends(sheet: &[u64], t: u64, u: u64, left: usize) -> bool
+pub fn depends(sheet: &[u64], t: usize, u: usize, left: usize) -> bool
     requires { ⌜ Joined (now sheet) ⌝ }
     ensures { λ b. ⌜ b ≡ depNo (now (sheet .entry)) left t u ⌝ }
 {
@@ -38,45 +37,55 @@ pub fn depends(sheet: &[u64], t: u64, u: u64, left: usize) -> bool
         return false;
     }
     let k = sheet::edge_into(sheet, u);
-    if sheet[1] as usize <= k {
+    if sheet::edges(sheet) <= k {
         return false;
     }
-    let at = 4 + sheet[0] as usize + 4 * k;
-    if sheet[at + 3] != 1 {
+    let edge = sheet::edge_no(sheet, k);
+    if edge.promise != 1 {
         return false;
     }
-    let q = sheet[at];
-    if q == t {
+    if edge.child == t {
         return true;
     }
-    depends(sheet, t, q, left - 1)
+    depends(sheet, t, edge.child, left - 1)
+}
+
+// Whether the list shows column c of table t.
+fn is_listed(sheet: &[u64], t: usize, c: usize) -> bool
+    requires { ⌜ Counts (now sheet) ⌝ }
+    ensures { λ b. ⌜ b ≡ listedNo (now (sheet .entry)) t c ⌝ }
+{
+    let p = sheet::listed(sheet);
+    if sheet::listing_of(sheet, t, c, p) < p {
+        return true;
+    }
+    false
 }
 
 // Whether u is in Need(t), with `left` tables left on the path.
-pub fn needs(sheet: &[u64], t: u64, u: u64, left: usize) -> bool
+pub fn needs(sheet: &[u64], t: usize, u: usize, left: usize) -> bool
     requires { ⌜ GoodSheet (now sheet) × (t < tableCount (now sheet)) ⌝ }
     ensures { λ b. ⌜ b ≡ needNo (now (sheet .entry)) left t u ⌝ }
 {
     if left == 0 {
         return false;
     }
-    let p = sheet[3] as usize;
-    if sheet::listing_of(sheet, t, 0, p) < p {
+    if is_listed(sheet, t, 0) {
         return false;
     }
     let k = sheet::edge_into(sheet, t);
-    if sheet[1] as usize <= k {
-        return is_other(sheet[0], t, u);
+    if sheet::edges(sheet) <= k {
+        return is_other(sheet::tables(sheet), t, u);
     }
-    let q = sheet[4 + sheet[0] as usize + 4 * k];
-    if q == u {
+    let edge = sheet::edge_no(sheet, k);
+    if edge.child == u {
         return true;
     }
-    needs(sheet, q, u, left - 1)
+    needs(sheet, edge.child, u, left - 1)
 }
 
 // Whether u is one of n tables other than t.
-fn is_other(n: u64, t: u64, u: u64) -> bool
+fn is_other(n: usize, t: usize, u: usize) -> bool
     ensures { λ b. ⌜ b ≡ (ltb u n && not (eqb u t)) ⌝ }
 {
     if n <= u {
@@ -89,17 +98,17 @@ fn is_other(n: u64, t: u64, u: u64) -> bool
 }
 
 // Whether Dep+(t) is every other table.
-fn rests_on_all(sheet: &[u64], t: u64) -> bool
+fn rests_on_all(sheet: &[u64], t: usize) -> bool
     requires { ⌜ Joined (now sheet) ⌝ }
     ensures { λ b. ⌜ b ≡ every (restsOn (now (sheet .entry)) t) (tableCount (now (sheet .entry))) ⌝ }
 {
-    let n = sheet[0];
+    let n = sheet::tables(sheet);
     let mut u = 0;
     while u < n {
         let v = u;
         u += 1;
         if v != t {
-            if !depends(sheet, t, v, n as usize) {
+            if !depends(sheet, t, v, n) {
                 return false;
             }
         }
@@ -108,14 +117,14 @@ fn rests_on_all(sheet: &[u64], t: u64) -> bool
 }
 
 // Whether t is in some table's Need.
-fn is_needed(sheet: &[u64], t: u64) -> bool
+fn is_needed(sheet: &[u64], t: usize) -> bool
     requires { ⌜ GoodSheet (now sheet) ⌝ }
     ensures { λ b. ⌜ b ≡ some (neededBy (now (sheet .entry)) t) (tableCount (now (sheet .entry))) ⌝ }
 {
-    let n = sheet[0];
+    let n = sheet::tables(sheet);
     let mut u = 0;
     while u < n {
-        if needs(sheet, u, t, n as usize) {
+        if needs(sheet, u, t, n) {
             return true;
         }
         u += 1;
@@ -124,7 +133,7 @@ fn is_needed(sheet: &[u64], t: u64) -> bool
 }
 
 // Whether t has a side table: it has none exactly if Dep+(t) is every other table and t is in no table's Need.
-pub fn is_kept(sheet: &[u64], t: u64) -> bool
+pub fn is_kept(sheet: &[u64], t: usize) -> bool
     requires { ⌜ GoodSheet (now sheet) ⌝ }
     ensures { λ b. ⌜ b ≡ keptNo (now (sheet .entry)) t ⌝ }
 {
@@ -135,18 +144,17 @@ pub fn is_kept(sheet: &[u64], t: u64) -> bool
 }
 
 // Whether c is the child column of an edge that leaves t.
-pub fn is_child_column(sheet: &[u64], t: u64, c: u64) -> bool
+pub fn is_child_column(sheet: &[u64], t: usize, c: usize) -> bool
     requires { ⌜ Counts (now sheet) ⌝ }
     ensures { λ b. ⌜ b ≡ some (leavesBy (now (sheet .entry)) t c) (edgeCount (now (sheet .entry))) ⌝ }
 {
-    let e = sheet[1] as usize;
-    let from = 4 + sheet[0] as usize;
+    let e = sheet::edges(sheet);
     let mut k = 0;
     while k < e {
-        let i = k;
+        let edge = sheet::edge_no(sheet, k);
         k += 1;
-        if sheet[from + 4 * i] == t {
-            if sheet[from + 4 * i + 1] == c {
+        if edge.child == t {
+            if edge.column == c {
                 return true;
             }
         }
@@ -155,7 +163,7 @@ pub fn is_child_column(sheet: &[u64], t: u64, c: u64) -> bool
 }
 
 // Whether t's side table shows column c.
-pub fn is_shown(sheet: &[u64], t: u64, c: u64) -> bool
+pub fn is_shown(sheet: &[u64], t: usize, c: usize) -> bool
     requires { ⌜ Counts (now sheet) ⌝ }
     ensures { λ b. ⌜ b ≡ shownNo (now (sheet .entry)) t c ⌝ }
 {
@@ -165,9 +173,5 @@ pub fn is_shown(sheet: &[u64], t: u64, c: u64) -> bool
     if is_child_column(sheet, t, c) {
         return true;
     }
-    let p = sheet[3] as usize;
-    if sheet::listing_of(sheet, t, c, p) < p {
-        return true;
-    }
-    false
+    is_listed(sheet, t, c)
 }

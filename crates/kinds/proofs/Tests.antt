@@ -1,20 +1,21 @@
 -- The tests of refusals 5 and 6 as the code makes them.
 -- Assumes nothing.
 use Prim.Native.Nat.{ℕ, _+_, _<_, _≤_}
-use mathlib.Core.Path.{_≡_, refl, ap, ap₂, _∙_}
-use mathlib.Core.Bool.{Bool, true, false, cond, not, _&&_, _||_, and-comm}
+use mathlib.Core.Path.{_≡_, refl, sym, ap, ap₂, _∙_}
+use mathlib.Core.Bool.{Bool, true, false, cond, not, _&&_, _||_, and-comm, and-false}
 use native.Mathlib.Omega.{arith}
 use lib.Dec.{eqb, ltb}
 use lib.ListN.{length}
 use borrow.Author.Tests.{eqb-true, eq-eqb, ne-eqb, lt-ltb, le-ltb}
 use Rattle.lists.specs.Lists.{Words, at, any}
 use Rattle.lists.specs.Loops.{every, some}
-use Rattle.lists.proofs.Loops.{and-true}
 use Rattle.rows.specs.Rows.{Row, key}
 use Rattle.meaning.specs.Sheet.{sheetOf, leaves, tableCount, edgeCount, conditionCount}
 use Rattle.meaning.specs.Base.{Change, goodChange, tied, sameTied, tiedStay}
 use Rattle.laws.proofs.Lists.{any-select}
-use Rattle.sheet.specs.Numbered.{edgeNo, conditionNo}
+use Rattle.sheet.specs.declared.reading.Condition.{Condition}
+use Rattle.sheet.specs.Read.{ReadsCondition}
+use Rattle.sheet.specs.Numbered.{widthNo, edgeNo, conditionNo}
 use Rattle.sheet.proofs.Words.{n-is, width-is, edges-are, conditions-are}
 use Rattle.sheet.proofs.Numbers.{any-up, all-upTo}
 use Rattle.sheet.specs.declared.Verdict.{Verdict}
@@ -22,18 +23,19 @@ use Rattle.sheet.specs.declared.Verdict.the-variants.{Good, Refused}
 use Rattle.derive.specs.Derived.{leavesBy}
 use Rattle.kinds.specs.Asked.{conditionOn, tiedNo, staysAt, oneRow, twoRows, changeOf, askedOf}
 
--- condition i is on the column: the facts, both ways
-pub record On (ws : Words) (t c i : ℕ) : Type 0 where
-  pub table : conditionNo ws i .table ≡ t
-  pub column : conditionNo ws i .column ≡ c
+-- a condition read is on column c of table t, or not
+module _ (ws : Words) (t c i : ℕ) {x : Condition} (r : ReadsCondition ws i x) where
+  pub on-yes : x .table ≡ t → x .column ≡ c → conditionOn ws t c i ≡ true
+  unfolding conditionOn
+  on-yes p q = rw (eq-eqb _ _ (sym (r .table-is) ∙ p), eq-eqb _ _ (sym (r .column-is) ∙ q))
 
-pub on-facts : (ws : Words) (t c i : ℕ) → conditionOn ws t c i ≡ true → On ws t c i
-unfolding conditionOn
-on-facts ws t c i h = let a = and-true _ _ h in record { table = eqb-true _ _ (a .0); column = eqb-true _ _ (a .1) }
+  pub on-other : (x .table ≡ t → ⊥) → conditionOn ws t c i ≡ false
+  unfolding conditionOn
+  on-other p = rw (ne-eqb _ _ (λ e. p (r .table-is ∙ e)))
 
-pub on-make : (ws : Words) (t c i : ℕ) → On ws t c i → conditionOn ws t c i ≡ true
-unfolding conditionOn
-on-make ws t c i h = rw (eq-eqb _ _ (h .table), eq-eqb _ _ (h .column))
+  pub on-elsewhere : (x .column ≡ c → ⊥) → conditionOn ws t c i ≡ false
+  unfolding conditionOn
+  on-elsewhere q = rw (ne-eqb (conditionNo ws i .column) c (λ e. q (r .column-is ∙ e))) (and-false (eqb (conditionNo ws i .table) t))
 
 -- tied, by number
 pub tied-is : (ws : Words) (t c : ℕ) → tiedNo ws t c ≡ (some (conditionOn ws t c) (conditionCount ws) || some (leavesBy ws t c) (edgeCount ws))
@@ -41,7 +43,8 @@ unfolding tiedNo tied conditionOn leavesBy
 tied-is ws t c =
     ap₂ _||_
     (any-select (λ d. eqb (d .column) c) (λ d. eqb (d .table) t) (sheetOf ws .conditions)
-    ∙ ap (any (λ d. eqb (d .table) t && eqb (d .column) c)) (conditions-are ws) ∙ any-up (λ d. eqb (d .table) t && eqb (d .column) c) (conditionNo ws) (conditionCount ws))
+    ∙ ap (any (λ d. eqb (d .table) t && eqb (d .column) c)) (conditions-are ws)
+    ∙ any-up (λ d. eqb (d .table) t && eqb (d .column) c) (conditionNo ws) (conditionCount ws))
     (any-select (λ e. eqb (e .column) c) (leaves t) (sheetOf ws .edges)
     ∙ ap (any (λ e. leaves t e && eqb (e .column) c)) (edges-are ws) ∙ any-up (λ e. leaves t e && eqb (e .column) c) (edgeNo ws) (edgeCount ws))
 
@@ -81,23 +84,29 @@ module _ (ws : Words) (t : ℕ) (l : t < tableCount ws) (r r′ : Row) where
   in-sheet : ltb t (sheetOf ws .n) ≡ true
   in-sheet = rw (n-is ws, lt-ltb t (tableCount ws) l)
 
-  pub asked-insert : oneRow (length r) (length r′) (at ws (4 + t)) ≡ askedOf ws (changeOf 1 t r r′)
-  unfolding askedOf goodChange tiedStay oneRow
-  asked-insert = rw (in-sheet, width-is ws t l)
+  -- the rows against the table's width
+  module _ (w : ℕ) (e : w ≡ widthNo ws t) where
+    pub asked-insert : oneRow (length r) (length r′) w ≡ askedOf ws (changeOf 1 t r r′)
+    unfolding askedOf goodChange tiedStay oneRow
+    asked-insert = rw (in-sheet, width-is ws t l ∙ sym e)
 
-  pub asked-delete : oneRow (length r′) (length r) (at ws (4 + t)) ≡ askedOf ws (changeOf 2 t r r′)
-  unfolding askedOf goodChange tiedStay oneRow
-  asked-delete = rw (in-sheet, width-is ws t l, and-comm (eqb (length r′) 0) (eqb (length r) (at ws (4 + t))))
+    pub asked-delete : oneRow (length r′) (length r) w ≡ askedOf ws (changeOf 2 t r r′)
+    unfolding askedOf goodChange tiedStay oneRow
+    asked-delete = rw (in-sheet, width-is ws t l ∙ sym e, and-comm (eqb (length r′) 0) (eqb (length r) w))
 
-  pub asked-update : twoRows ws t r r′ (at ws (4 + t)) ≡ askedOf ws (changeOf 3 t r r′)
-  unfolding askedOf goodChange tiedStay twoRows sameTied staysAt tiedNo
-  asked-update = rw (in-sheet, width-is ws t l, all-upTo (λ c. not (tied (sheetOf ws) t c) || eqb (at r c) (at r′ c)) (at ws (4 + t))) (go (eqb (length r) (at ws (4 + t))) refl)
-    where
-      go : (b : Bool) → eqb (length r) (at ws (4 + t)) ≡ b
-          → cond {A = Verdict} (b && eqb (length r′) (at ws (4 + t)) && eqb (key r) (key r′)) (cond (every (λ c. not (tied (sheetOf ws) t c) || eqb (at r c) (at r′ c)) (length r)) Good (Refused 6)) (Refused 5)
-          ≡ cond (b && eqb (length r′) (at ws (4 + t)) && eqb (key r) (key r′)) (cond (every (λ c. not (tied (sheetOf ws) t c) || eqb (at r c) (at r′ c)) (at ws (4 + t))) Good (Refused 6)) (Refused 5)
-      go true e = rw (eqb-true (length r) (at ws (4 + t)) e)
-      go false e = refl
+    pub asked-update : twoRows ws t r r′ w ≡ askedOf ws (changeOf 3 t r r′)
+    unfolding askedOf goodChange tiedStay twoRows sameTied staysAt tiedNo
+    asked-update = rw (in-sheet, width-is ws t l ∙ sym e, all-upTo stays w) (go (eqb (length r) w) refl)
+      where
+        stays : ℕ → Bool
+        stays c = not (tied (sheetOf ws) t c) || eqb (at r c) (at r′ c)
+
+        -- the columns of the row that is there are those of the table
+        go : (b : Bool) → eqb (length r) w ≡ b
+            → cond {A = Verdict} (b && eqb (length r′) w && eqb (key r) (key r′)) (cond (every stays (length r)) Good (Refused 6)) (Refused 5)
+            ≡ cond (b && eqb (length r′) w && eqb (key r) (key r′)) (cond (every stays w) Good (Refused 6)) (Refused 5)
+        go true q = rw (eqb-true (length r) w q)
+        go false q = refl
 
 -- a verdict on what is asked, taken apart
 module _ (ws : Words) (c : Change) where

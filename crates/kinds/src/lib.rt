@@ -12,18 +12,17 @@ ghost use Rattle.kinds.specs.Asked.{conditionOn, tiedNo, staysAt, oneRow
 use sheet::Verdict;
 
 // Whether a condition speaks of column c of table t.
-fn in_condition(sheet: &[u64], t: u64, c: u64) -> bool
+fn in_condition(sheet: &[u64], t: usize, c: usize) -> bool
     requires { ⌜ Counts (now sheet) ⌝ }
     ensures { λ b. ⌜ b ≡ some (conditionOn (now (sheet .entry)) t c) (conditionCount (now (sheet .entry))) ⌝ }
 {
-    let many = sheet[2] as usize;
-    let from = 4 + sheet[0] as usize + 4 * sheet[1] as usize;
+    let many = sheet::conditions(sheet);
     let mut k = 0;
     while k < many {
-        let i = k;
+        let condition = sheet::condition_no(sheet, k);
         k += 1;
-        if sheet[from + 4 * i] == t {
-            if sheet[from + 4 * i + 1] == c {
+        if condition.table == t {
+            if condition.column == c {
                 return true;
             }
         }
@@ -32,7 +31,7 @@ fn in_condition(sheet: &[u64], t: u64, c: u64) -> bool
 }
 
 // Whether column c of table t is tied: in a condition, or the child column of an edge.
-pub fn is_tied(sheet: &[u64], t: u64, c: u64) -> bool
+pub fn is_tied(sheet: &[u64], t: usize, c: usize) -> bool
     requires { ⌜ Counts (now sheet) ⌝ }
     ensures { λ b. ⌜ b ≡ tiedNo (now (sheet .entry)) t c ⌝ }
 {
@@ -43,7 +42,7 @@ pub fn is_tied(sheet: &[u64], t: u64, c: u64) -> bool
 }
 
 // Whether no tied column of table t differs between the two rows.
-fn tied_stay(sheet: &[u64], t: u64, old: &[u64], new: &[u64]) -> bool
+fn tied_stay(sheet: &[u64], t: usize, old: &[u64], new: &[u64]) -> bool
     requires { ⌜ Counts (now sheet) ⌝ }
     requires { ⌜ length (now old) ≡ length (now new) ⌝ }
     ensures { λ b. ⌜ b ≡ every (staysAt (now (sheet .entry)) t (now (old .entry)) (now (new .entry))) (length (now (old .entry))) ⌝ }
@@ -53,7 +52,7 @@ fn tied_stay(sheet: &[u64], t: u64, old: &[u64], new: &[u64]) -> bool
         let c = k;
         k += 1;
         if old[c] != new[c] {
-            if is_tied(sheet, t, c as u64) {
+            if is_tied(sheet, t, c) {
                 return false;
             }
         }
@@ -75,7 +74,7 @@ fn one_row(unused: &[u64], row: &[u64], w: usize) -> Verdict
 }
 
 // An update's rows: both of the table's width, with one key, and no tied column altered.
-fn two_rows(sheet: &[u64], t: u64, old: &[u64], new: &[u64], w: usize) -> Verdict
+fn two_rows(sheet: &[u64], t: usize, old: &[u64], new: &[u64], w: usize) -> Verdict
     requires { ⌜ Counts (now sheet) ⌝ }
     requires { ⌜ 1 ≤ w ⌝ }
     ensures { λ v. ⌜ v ≡ twoRows (now (sheet .entry)) t (now (old .entry)) (now (new .entry)) w ⌝ }
@@ -100,14 +99,15 @@ pub fn asked(sheet: &[u64], kind: u64, table: u64, old: &[u64], new: &[u64]) -> 
     requires { ⌜ GoodSheet (now sheet) ⌝ }
     ensures { λ v. ⌜ v ≡ askedOf (now (sheet .entry)) (changeOf kind table (now (old .entry)) (now (new .entry))) ⌝ }
 {
-    if sheet[0] <= table {
+    if sheet::tables(sheet) as u64 <= table {
         return Verdict::Refused(5);
     }
-    let w = sheet[4 + table as usize] as usize;
+    let t = table as usize;
+    let w = sheet::width_no(sheet, t);
     match kind {
         1 => one_row(old, new, w),
         2 => one_row(new, old, w),
-        3 => two_rows(sheet, table, old, new, w),
+        3 => two_rows(sheet, t, old, new, w),
         0 | 4..=u64::MAX => Verdict::Refused(5),
     }
 }

@@ -3,19 +3,21 @@
 use Prim.Native.Nat.{ℕ, _+_, _*_, _/_, _%_, _<_, _≤_}
 use mathlib.Core.Path.{_≡_, refl, sym, ap, _∙_}
 use mathlib.Core.Bool.{Bool, true, false, _&&_}
-use mathlib.Core.List.{List}
+use mathlib.Core.List.{List, map}
 use native.Mathlib.Omega.{arith}
 use lib.Dec.{eqb, ltb}
-use lib.ListN.{length, take, drop, replicate, length-take, List·getD-eq-default}
+use lib.ListN.{replicate, length-map, List·getD-eq-default}
 use borrow.Author.Tests.{le-ltb, ltb-true, ltb-false}
 use Rattle.lists.specs.Lists.{Words, at, upTo}
 use Rattle.lists.specs.Totals.{one}
 use Rattle.lists.proofs.Truth.{upTo-mem, select-same}
 use Rattle.lists.proofs.Loops.{getD-filled}
+use Rattle.lists.proofs.Places.{length-from}
 use Rattle.meaning.specs.Sheet.{sheetOf, width, hasColumn, tableCount}
 use Rattle.meaning.specs.Plan.{isShown, shown}
 use Rattle.sheet.specs.Rules.{Rules}
-use Rattle.sheet.proofs.Words.{n-is, width-is}
+use Rattle.sheet.specs.Numbered.{widthNo}
+use Rattle.sheet.proofs.Words.{n-is, width-is, widths-are}
 use Rattle.layout.specs.Marks.{marked, markedIn, markedAt, listsOf}
 use Rattle.layout.specs.Plans.{showsAt, showsOf, shownAt, shownOf}
 use Rattle.layout.proofs.Chosen.{select-narrow, filled-same}
@@ -28,10 +30,9 @@ one-is false = refl
 module _ (ws : Words) (r : Rules ws) where
   -- a table that is not there has no columns
   pub width-past : (t : ℕ) → tableCount ws ≤ t → width (sheetOf ws) t ≡ 0
-  unfolding sheetOf
   width-past t h =
-      let l : length (take (tableCount ws) (drop 4 ws)) ≤ t = simp length-take (omega arith) in
-      List·getD-eq-default (take (tableCount ws) (drop 4 ws)) 0 l
+      ap (λ (l : List ℕ). at l t) (widths-are ws (r .counts))
+      ∙ List·getD-eq-default (map (widthNo ws) (upTo (tableCount ws))) 0 (omega (arith, length-map (upTo (tableCount ws)) (widthNo ws), length-from 0 (tableCount ws)))
 
   pub width-small : (t : ℕ) → width (sheetOf ws) t ≤ 8
   width-small t = go (ltb t (tableCount ws)) refl

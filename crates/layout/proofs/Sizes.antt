@@ -49,15 +49,16 @@ pub dep-mark : (ws : Words) (i v : ℕ) (b : Bool) → b ≡ depNo ws 1 (i / 8) 
 unfolding depNo depAt
 dep-mark ws i v b e m = m ∙ ap one (e ∙ ap (member (i % 8)) (flat-ones (dep (sheetOf ws) (i / 8))))
 
-pub need-none : (ws : Words) (i : ℕ) → tableCount ws ≤ i / 8 → 0 ≡ needAt (sheetOf ws) i
-unfolding needAt
-need-none ws i h = rw (n-is ws, le-ltb (i / 8) (tableCount ws) h)
+module _ (ws : Words) {n : ℕ} (q : n ≡ tableCount ws) (i : ℕ) where
+  pub need-none : n ≤ i / 8 → 0 ≡ needAt (sheetOf ws) i
+  unfolding needAt
+  need-none h = rw (n-is ws ∙ sym q, le-ltb (i / 8) n h)
 
-pub need-mark : (ws : Words) (i v : ℕ) (b : Bool) → i / 8 < tableCount ws → b ≡ needNo ws (tableCount ws) (i / 8) (i % 8) → v ≡ one b → v ≡ needAt (sheetOf ws) i
-unfolding needAt needNo need
-need-mark ws i v b h e m =
-    m ∙ ap one (e ∙ sym (ap₂ (λ (b : Bool) (k : ℕ). b && member (i % 8) (needIn (sheetOf ws) k (i / 8)))
-    (ap (ltb (i / 8)) (n-is ws) ∙ lt-ltb (i / 8) (tableCount ws) h) (n-is ws)))
+  pub need-mark : (v : ℕ) (b : Bool) → i / 8 < n → b ≡ needNo ws n (i / 8) (i % 8) → v ≡ one b → v ≡ needAt (sheetOf ws) i
+  unfolding needAt needNo need
+  need-mark v b h e m =
+      m ∙ ap one (e ∙ sym (ap₂ (λ (b : Bool) (k : ℕ). b && member (i % 8) (needIn (sheetOf ws) k (i / 8)))
+      (ap (ltb (i / 8)) (n-is ws ∙ sym q) ∙ lt-ltb (i / 8) n h) (n-is ws ∙ sym q)))
 
 -- the parts stand one behind the other
 pub start-first : (s : Sheet) → start s 0 ≡ 9
@@ -68,9 +69,9 @@ pub start-more : (s : Sheet) (part at v : ℕ) → at ≡ start s part → v ≡
 start-more s part at v e q = omega (arith, start-next s part, ap (start s) (add-one part))
 
 -- the room of a part, as the code reads it
-pub room-word : (ws : Words) (part : ℕ) → roomNo ws part ≡ roomAt (sheetOf ws) part
+pub room-read : (ws : Words) (part r : ℕ) → r ≡ roomNo ws part → r ≡ roomAt (sheetOf ws) part
 unfolding roomAt
-room-word ws part = sym (room-is ws part)
+room-read ws part r e = e ∙ sym (room-is ws part)
 
 -- a side table shows no more columns than the table has
 pub shown-few : (s : Sheet) (t : ℕ) → length (shown s t) ≤ width s t
@@ -84,10 +85,10 @@ part-read f ws g part h =
 
 module _ (ws : Words) (g : GoodSheet ws) where
   -- the columns of a part, as the code finds them
-  pub columns-of-list : (part : ℕ) → part ≤ tableCount ws → tableCount ws ≤ part → listedCount ws ≡ columns (sheetOf ws) part
-  columns-of-list part h l =
+  pub columns-of-list : (part p : ℕ) → part ≤ tableCount ws → tableCount ws ≤ part → p ≡ listedCount ws → p ≡ columns (sheetOf ws) part
+  columns-of-list part p h l e =
       let q : part ≡ sheetOf ws .n = omega (arith, n-is ws) in
-      rw (q, columns-list (sheetOf ws), listed-are ws) (sym (length-map (upTo (listedCount ws)) (listingNo ws) ∙ length-from 0 (listedCount ws)))
+      rw (q, columns-list (sheetOf ws), listed-are ws) (e ∙ sym (length-map (upTo (listedCount ws)) (listingNo ws) ∙ length-from 0 (listedCount ws)))
 
   module _ (part : ℕ) (marks : List ℕ) (e : marks ≡ keptOf (sheetOf ws)) (h : part < tableCount ws) where
     kept-read : getD marks part 0 ≡ one (kept (sheetOf ws) part)
@@ -129,7 +130,7 @@ module _ (ws : Words) (g : GoodSheet ws) where
       go true e false d =
           let l : part < sheetOf ws .n = omega (arith, ltb-true part (tableCount ws) e, n-is ws) in
           omega (arith, columns-unkept (sheetOf ws) part l (false→F d))
-      go false e d q = omega (arith, columns-of-list part h (ltb-false part (tableCount ws) e), g .joined .rules .counts .listed-few)
+      go false e d q = omega (arith, columns-of-list part (listedCount ws) h (ltb-false part (tableCount ws) e) refl, g .joined .rules .counts .listed-few)
 
   pub room-small : (part : ℕ) → part ≤ tableCount ws → room (sheetOf ws) part ≤ 4096
   room-small part h = omega (arith, room-is ws part, g .joined .rules .rooms part (omega arith) .high)
@@ -153,13 +154,14 @@ module _ (ws : Words) (g : GoodSheet ws) where
   unfolding startsOf
   start-read starts part e h = rw (e, part-read (start (sheetOf ws)) ws g part h)
 
-  -- the list's place
-  pub list-start : (starts : List ℕ) → starts ≡ startsOf (sheetOf ws) → (getD starts (tableCount ws) 0 ≡ start (sheetOf ws) (tableCount ws)) × (getD starts (tableCount ws) 0 ≤ 9 + 8 * 65536)
-  list-start starts e =
-      let r = start-read starts (tableCount ws) e (omega arith) in
-      let l = start-small (tableCount ws) (omega arith) in
-      (r, omega (arith, g .joined .rules .counts .tables-few))
+  -- the list's place, and the store's end behind its room
+  module _ (starts : List ℕ) (e : starts ≡ startsOf (sheetOf ws)) (n : ℕ) (q : n ≡ tableCount ws) where
+    pub list-start : (getD starts n 0 ≡ start (sheetOf ws) n) × (getD starts n 0 ≤ 9 + 8 * 65536)
+    list-start =
+        let r = start-read starts n e (omega arith) in
+        let l = start-small n (omega arith) in
+        (r, omega (arith, g .joined .rules .counts .tables-few))
 
-  pub store-is : (a b : ℕ) → a ≡ start (sheetOf ws) (tableCount ws) → b ≡ size (sheetOf ws) (tableCount ws) → a + b ≡ storeLength (sheetOf ws)
-  unfolding storeLength
-  store-is a b e q = omega (arith, start-next (sheetOf ws) (tableCount ws), ap (λ (n : ℕ). start (sheetOf ws) (n + 1)) (n-is ws), ap (start (sheetOf ws)) (add-one (tableCount ws)))
+    pub store-is : (b : ℕ) → b ≡ size (sheetOf ws) n → getD starts n 0 + b ≡ storeLength (sheetOf ws)
+    unfolding storeLength
+    store-is b h = omega (arith, list-start .0, start-next (sheetOf ws) n, ap (λ (k : ℕ). start (sheetOf ws) (k + 1)) (n-is ws ∙ sym q), ap (start (sheetOf ws)) (add-one n))

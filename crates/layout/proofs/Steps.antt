@@ -63,14 +63,14 @@ module _ (marks : List ℕ) (t : ℕ) where
   marked-past j many e h = sym (chosen-past (marked marks t) 8 j (omega arith))
 
 -- the plan, put together
-pub plan-made : (ws : Words) → Rules ws → (root store : ℕ) (kept shows shown columns rooms starts dep need : List ℕ)
-    → root ≡ Meant.root (sheetOf ws) → store ≡ storeLength (sheetOf ws) → kept ≡ keptOf (sheetOf ws) → shows ≡ showsOf (sheetOf ws) → shown ≡ listsOf shows
+pub plan-made : (ws : Words) → Rules ws → (tables root store : ℕ) (kept shows shown columns rooms starts dep need : List ℕ)
+    → tables ≡ tableCount ws → root ≡ Meant.root (sheetOf ws) → store ≡ storeLength (sheetOf ws) → kept ≡ keptOf (sheetOf ws) → shows ≡ showsOf (sheetOf ws) → shown ≡ listsOf shows
     → columns ≡ columnsOf (sheetOf ws) → rooms ≡ roomsOf (sheetOf ws) → starts ≡ startsOf (sheetOf ws) → dep ≡ depOf (sheetOf ws) → need ≡ needOf (sheetOf ws)
     → _≡_ {A = Plan}
-    (record { tables = tableCount ws; root = root; store = store; kept = kept; shows = shows; shown = shown; columns = columns; rooms = rooms; starts = starts; dep = dep; need = need })
+    (record { tables = tables; root = root; store = store; kept = kept; shows = shows; shown = shown; columns = columns; rooms = rooms; starts = starts; dep = dep; need = need })
     (planFor (sheetOf ws))
 unfolding planFor
-plan-made ws r root store kept shows shown columns rooms starts dep need a b c d e f g h i j =
+plan-made ws r tables root store kept shows shown columns rooms starts dep need t a b c d e f g h i j =
     let l = lists-shown ws r in
     let n = n-is ws in
     cc

@@ -2,7 +2,6 @@
 use sheet::Verdict;
 ghost use mathlib.Core.Path.{_≡_};
 ghost use Prim.Native.Nat.{ℕ, _+_, _*_, _≤_, _<_};
-ghost use Rattle.lists.specs.Lists.{at};
 ghost use Rattle.lists.specs.Totals.{one};
 ghost use Rattle.meaning.specs.Sheet.{sheetOf, tableCount};
 ghost use Rattle.meaning.specs.Plan.{columns, size, storeLength};
@@ -48,18 +47,18 @@ fn kept_marks(sheet: &[u64]) -> [u64; 8]
     requires { ⌜ GoodSheet (now sheet) ⌝ }
     ensures { λ m. ⌜ m ≡ keptOf (sheetOf (now (sheet .entry))) ⌝ }
 {
-    let n = sheet[0];
+    let n = sheet::tables(sheet);
     let mut m = [0u64; 8];
     let mut t = 0;
     while t < n {
-        m[t as usize] = mark_of(derive::is_kept(sheet, t));
+        m[t] = mark_of(derive::is_kept(sheet, t));
         t += 1;
     }
     m
 }
 
 // Whether table i / 8 has a column i % 8 and its side table shows it.
-fn shows_at(sheet: &[u64], i: u64) -> u64
+fn shows_at(sheet: &[u64], i: usize) -> u64
     requires { ⌜ GoodSheet (now sheet) ⌝ }
     ensures { λ r. ⌜ r ≡ showsAt (sheetOf (now (sheet .entry))) i ⌝ }
 {
@@ -74,9 +73,9 @@ fn shows_marks(sheet: &[u64]) -> [u64; 64]
     ensures { λ m. ⌜ m ≡ showsOf (sheetOf (now (sheet .entry))) ⌝ }
 {
     let mut m = [0u64; 64];
-    let mut i: u64 = 0;
+    let mut i = 0;
     while i < 64 {
-        m[i as usize] = shows_at(sheet, i);
+        m[i] = shows_at(sheet, i);
         i += 1;
     }
     m
@@ -136,8 +135,8 @@ fn columns_in(sheet: &[u64], kept: [u64; 8], shows: [u64; 64], part: usize) -> u
     requires { ⌜ GoodSheet (now sheet) × ((kept ≡ keptOf (sheetOf (now sheet))) × ((shows ≡ showsOf (sheetOf (now sheet))) × (part ≤ tableCount (now sheet)))) ⌝ }
     ensures { λ r. ⌜ r ≡ columns (sheetOf (now (sheet .entry))) part ⌝ }
 {
-    if sheet[0] as usize <= part {
-        return sheet[3] as usize;
+    if sheet::tables(sheet) <= part {
+        return sheet::listed(sheet);
     }
     if kept[part] == 0 {
         return 0;
@@ -149,7 +148,7 @@ fn columns_of(sheet: &[u64], kept: [u64; 8], shows: [u64; 64]) -> [usize; 9]
     requires { ⌜ GoodSheet (now sheet) × ((kept ≡ keptOf (sheetOf (now sheet))) × (shows ≡ showsOf (sheetOf (now sheet)))) ⌝ }
     ensures { λ r. ⌜ r ≡ columnsOf (sheetOf (now (sheet .entry))) ⌝ }
 {
-    let m = sheet[0] as usize + 1;
+    let m = sheet::tables(sheet) + 1;
     let mut r = [0usize; 9];
     let mut part = 0;
     while part < m {
@@ -163,16 +162,11 @@ fn rooms_of(sheet: &[u64]) -> [usize; 9]
     requires { ⌜ Counts (now sheet) ⌝ }
     ensures { λ r. ⌜ r ≡ roomsOf (sheetOf (now (sheet .entry))) ⌝ }
 {
-    let m = sheet[0] as usize + 1;
-    let from = 4
-        + sheet[0] as usize
-        + 4 * sheet[1] as usize
-        + 4 * sheet[2] as usize
-        + 2 * sheet[3] as usize;
+    let m = sheet::tables(sheet) + 1;
     let mut r = [0usize; 9];
     let mut part = 0;
     while part < m {
-        r[part] = sheet[from + part] as usize;
+        r[part] = sheet::room_no(sheet, part);
         part += 1;
     }
     r
@@ -191,7 +185,7 @@ fn starts_of(sheet: &[u64], rooms: [usize; 9], columns: [usize; 9]) -> [usize; 9
     requires { ⌜ GoodSheet (now sheet) × ((rooms ≡ roomsOf (sheetOf (now sheet))) × (columns ≡ columnsOf (sheetOf (now sheet)))) ⌝ }
     ensures { λ r. ⌜ r ≡ startsOf (sheetOf (now (sheet .entry))) ⌝ }
 {
-    let m = sheet[0] as usize + 1;
+    let m = sheet::tables(sheet) + 1;
     let mut r = [0usize; 9];
     let mut at: usize = 9;
     let mut part = 0;
@@ -208,7 +202,7 @@ fn store_of(sheet: &[u64], rooms: [usize; 9], columns: [usize; 9], starts: [usiz
     requires { ⌜ GoodSheet (now sheet) × ((rooms ≡ roomsOf (sheetOf (now sheet))) × ((columns ≡ columnsOf (sheetOf (now sheet))) × (starts ≡ startsOf (sheetOf (now sheet))))) ⌝ }
     ensures { λ r. ⌜ r ≡ storeLength (sheetOf (now (sheet .entry))) ⌝ }
 {
-    let n = sheet[0] as usize;
+    let n = sheet::tables(sheet);
     let last = size_of(sheet, rooms, columns, n);
     starts[n] + last
 }
@@ -218,23 +212,23 @@ fn dep_marks(sheet: &[u64]) -> [u64; 64]
     ensures { λ m. ⌜ m ≡ depOf (sheetOf (now (sheet .entry))) ⌝ }
 {
     let mut m = [0u64; 64];
-    let mut i: u64 = 0;
+    let mut i = 0;
     while i < 64 {
-        m[i as usize] = mark_of(derive::depends(sheet, i / 8, i % 8, 1));
+        m[i] = mark_of(derive::depends(sheet, i / 8, i % 8, 1));
         i += 1;
     }
     m
 }
 
-fn need_at(sheet: &[u64], i: u64) -> u64
+fn need_at(sheet: &[u64], i: usize) -> u64
     requires { ⌜ GoodSheet (now sheet) ⌝ }
     ensures { λ r. ⌜ r ≡ needAt (sheetOf (now (sheet .entry))) i ⌝ }
 {
-    let n = sheet[0];
+    let n = sheet::tables(sheet);
     if n <= i / 8 {
         return 0;
     }
-    mark_of(derive::needs(sheet, i / 8, i % 8, n as usize))
+    mark_of(derive::needs(sheet, i / 8, i % 8, n))
 }
 
 fn need_marks(sheet: &[u64]) -> [u64; 64]
@@ -242,9 +236,9 @@ fn need_marks(sheet: &[u64]) -> [u64; 64]
     ensures { λ m. ⌜ m ≡ needOf (sheetOf (now (sheet .entry))) ⌝ }
 {
     let mut m = [0u64; 64];
-    let mut i: u64 = 0;
+    let mut i = 0;
     while i < 64 {
-        m[i as usize] = need_at(sheet, i);
+        m[i] = need_at(sheet, i);
         i += 1;
     }
     m
@@ -255,8 +249,8 @@ fn plan_for(sheet: &[u64]) -> Plan
     requires { ⌜ GoodSheet (now sheet) ⌝ }
     ensures { λ p. ⌜ p ≡ planFor (sheetOf (now (sheet .entry))) ⌝ }
 {
-    let tables = sheet[0] as usize;
-    let root = derive::root_of(sheet) as usize;
+    let tables = sheet::tables(sheet);
+    let root = derive::root_of(sheet);
     let kept = kept_marks(sheet);
     let shows = shows_marks(sheet);
     let shown = marked_lists(shows);

@@ -4,80 +4,59 @@ use Prim.Native.Nat.{_≤_, _-_}
 use mathlib.Core.Path.{_≡_, sym}
 use mathlib.Core.Bool.{false}
 use Rattle.lists.specs.Loops.{some}
-use Rattle.lists.proofs.Loops.{some-more, some-hit, some-end, no}
+use Rattle.lists.proofs.Loops.{some-more, some-hit, some-end}
 use Rattle.derive.specs.Derived.{leavesBy}
-use Rattle.derive.proofs.Steps.{leaves-facts, leaves-make}
+use Rattle.derive.proofs.Steps.{leaves-yes, leaves-other, leaves-elsewhere}
 use borrow.Author.Needs.{needs}
 use native.Mathlib.Omega.{arith}
 use Rattle.derive.proofs.is_child_column.Statement.{statement}
 use Rattle.derive.proofs.is_child_column.Tie as tie
 
 abbrev Inv-loop : tie.InvT-loop
-Inv-loop sheet t c e from k₀ k = (k ≤ e) × (some (leavesBy sheet t c) k ≡ false)
+Inv-loop sheet t c e k₀ k = (k ≤ e) × (some (leavesBy sheet t c) k ≡ false)
 
 abbrev μ-loop : tie.MeasureT-loop
-μ-loop sheet t c e from k₀ k = e - k
+μ-loop sheet t c e k₀ k = e - k
 
-shared-slice-read-e : tie.Need-shared-slice-read-e Inv-loop μ-loop
-shared-slice-read-e c = search needs
-
-shared-slice-read-from : tie.Need-shared-slice-read-from Inv-loop μ-loop
-shared-slice-read-from c = search needs
-
-add-from : tie.Need-add-from Inv-loop μ-loop
-add-from c = search needs
+edges-requires : tie.Need-edges-requires Inv-loop μ-loop
+edges-requires c κs = search needs
 
 loop-holds : tie.Need-loop-holds Inv-loop μ-loop
 unfolding some
 loop-holds c = search needs
 
+edge-no-requires : tie.Need-edge-no-requires Inv-loop μ-loop
+edge-no-requires c κs = search needs
+
 add-k : tie.Need-add-k Inv-loop μ-loop
 add-k c = search needs
 
-mul-if1 : tie.Need-mul-if1 Inv-loop μ-loop
-mul-if1 c = search needs
-
-add-if1 : tie.Need-add-if1 Inv-loop μ-loop
-add-if1 c = search needs
-
-mul-if1-2 : tie.Need-mul-if1-2 Inv-loop μ-loop
-mul-if1-2 c = search needs
-
-shared-slice-read-if1 : tie.Need-shared-slice-read-if1 Inv-loop μ-loop
-shared-slice-read-if1 c = search needs
-
-mul-if2 : tie.Need-mul-if2 Inv-loop μ-loop
-mul-if2 c = search needs
-
-add-if2 : tie.Need-add-if2 Inv-loop μ-loop
-add-if2 c = search needs
-
-add-if2-2 : tie.Need-add-if2-2 Inv-loop μ-loop
-add-if2-2 c = search needs
-
-mul-if2-2 : tie.Need-mul-if2-2 Inv-loop μ-loop
-mul-if2-2 c = search needs
-
-shared-slice-read-if2 : tie.Need-shared-slice-read-if2 Inv-loop μ-loop
-shared-slice-read-if2 c = search needs
-
 returns : tie.Need-returns Inv-loop μ-loop
-returns c = sym (some-hit _ _ _ (c .before .before .before .before .loop-test .taken) (leaves-make _ _ _ _ (omega arith)))
+returns c =
+    let at-if1 = c .before .before in
+    let at-edge-no = at-if1 .before .before in
+    sym (some-hit _ _ _ (omega arith) (leaves-yes _ _ _ _ (at-edge-no .edge-no .ensures) (at-if1 .if1 .taken) (c .if2 .taken)))
 
 loop-less : tie.Need-loop-less Inv-loop μ-loop
 loop-less c = search needs
 
 loop-again : tie.Need-loop-again Inv-loop μ-loop
-loop-again c = (omega arith, some-more _ _ (c .before .before .before .before .before .loop .inv .1) (sym (no _ (λ h. let f = leaves-facts _ _ _ _ h in omega arith))))
+loop-again c =
+    let at-edge-no = c .before .before .before .before in
+    let at-loop = at-edge-no .before .before in
+    (omega arith, some-more _ _ (at-loop .loop .inv .1) (leaves-elsewhere _ _ _ _ (at-edge-no .edge-no .ensures) (c .if2 .left)))
 
 loop-less-2 : tie.Need-loop-less-2 Inv-loop μ-loop
 loop-less-2 c = search needs
 
 loop-again-2 : tie.Need-loop-again-2 Inv-loop μ-loop
-loop-again-2 c = (omega arith, some-more _ _ (c .before .before .before .loop .inv .1) (sym (no _ (λ h. let f = leaves-facts _ _ _ _ h in omega arith))))
+loop-again-2 c =
+    let at-edge-no = c .before .before in
+    let at-loop = at-edge-no .before .before in
+    (omega arith, some-more _ _ (at-loop .loop .inv .1) (leaves-other _ _ _ _ (at-edge-no .edge-no .ensures) (c .if1 .left)))
 
 returns-2 : tie.Need-returns-2 Inv-loop μ-loop
-returns-2 c = sym (some-end _ _ _ (c .before .loop .inv .0) (c .loop-test .left) (c .before .loop .inv .1))
+returns-2 c = sym (some-end _ _ _ (omega arith) (omega arith) (c .before .loop .inv .1))
 
 pub is-child-column-spec : {M : Type 1} → statement M
 is-child-column-spec =
@@ -85,20 +64,10 @@ is-child-column-spec =
     (tie.spec
     Inv-loop
     μ-loop
-    shared-slice-read-e
-    shared-slice-read-from
-    add-from
+    edges-requires
     loop-holds
+    edge-no-requires
     add-k
-    mul-if1
-    add-if1
-    mul-if1-2
-    shared-slice-read-if1
-    mul-if2
-    add-if2
-    add-if2-2
-    mul-if2-2
-    shared-slice-read-if2
     returns
     loop-less
     loop-again

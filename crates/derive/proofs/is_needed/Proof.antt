@@ -18,8 +18,8 @@ Inv-loop sheet t n u₀ u = (u ≤ n) × (some (neededBy sheet t) u ≡ false)
 abbrev μ-loop : tie.MeasureT-loop
 μ-loop sheet t n u₀ u = n - u
 
-shared-slice-read-n : tie.Need-shared-slice-read-n Inv-loop μ-loop
-shared-slice-read-n c = search needs
+tables-requires : tie.Need-tables-requires Inv-loop μ-loop
+tables-requires c κs = search needs
 
 loop-holds : tie.Need-loop-holds Inv-loop μ-loop
 unfolding some
@@ -29,7 +29,9 @@ needs-requires : tie.Need-needs-requires Inv-loop μ-loop
 needs-requires c κs = search needs
 
 returns : tie.Need-returns Inv-loop μ-loop
-returns c = sym (some-hit _ _ _ (c .before .before .loop-test .taken) (needed-is _ _ _ _ (c .before .needs .ensures) ∙ c .if1 .taken))
+returns c =
+    let at-tables = c .before .before .before .before in
+    sym (some-hit _ _ _ (omega arith) (needed-is _ _ _ (at-tables .tables .ensures) _ (c .before .needs .ensures) ∙ c .if1 .taken))
 
 add-u : tie.Need-add-u Inv-loop μ-loop
 add-u c = search needs
@@ -38,10 +40,13 @@ loop-less : tie.Need-loop-less Inv-loop μ-loop
 loop-less c = search needs
 
 loop-again : tie.Need-loop-again Inv-loop μ-loop
-loop-again c = (omega arith, some-more _ _ (c .before .before .before .loop .inv .1) (needed-is _ _ _ _ (c .before .needs .ensures) ∙ c .if1 .left))
+loop-again c =
+    let at-loop = c .before .before .before in
+    let at-tables = at-loop .before in
+    (omega arith, some-more _ _ (at-loop .loop .inv .1) (needed-is _ _ _ (at-tables .tables .ensures) _ (c .before .needs .ensures) ∙ c .if1 .left))
 
 returns-2 : tie.Need-returns-2 Inv-loop μ-loop
-returns-2 c = sym (some-end _ _ _ (c .before .loop .inv .0) (c .loop-test .left) (c .before .loop .inv .1))
+returns-2 c = sym (some-end _ _ _ (omega arith) (omega arith) (c .before .loop .inv .1))
 
 pub is-needed-spec : {M : Type 1} → statement M
 is-needed-spec =
@@ -49,7 +54,7 @@ is-needed-spec =
     (tie.spec
     Inv-loop
     μ-loop
-    shared-slice-read-n
+    tables-requires
     loop-holds
     needs-requires
     returns

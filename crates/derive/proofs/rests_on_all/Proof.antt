@@ -19,8 +19,8 @@ Inv-loop sheet t n u₀ u = (u ≤ n) × (every (restsOn sheet t) u ≡ true)
 abbrev μ-loop : tie.MeasureT-loop
 μ-loop sheet t n u₀ u = n - u
 
-shared-slice-read-n : tie.Need-shared-slice-read-n Inv-loop μ-loop
-shared-slice-read-n c = search needs
+tables-requires : tie.Need-tables-requires Inv-loop μ-loop
+tables-requires c κs = search needs
 
 loop-holds : tie.Need-loop-holds Inv-loop μ-loop
 unfolding every
@@ -33,13 +33,24 @@ depends-requires : tie.Need-depends-requires Inv-loop μ-loop
 depends-requires c κs = search needs
 
 returns : tie.Need-returns Inv-loop μ-loop
-returns c = sym (every-fails _ _ _ (c .before .before .before .loop-test .taken) (rests-dep _ _ _ _ (c .before .before .if1 .taken) (c .before .depends .ensures) ∙ not-true _ (c .if2 .taken)))
+returns c =
+    let at-if1 = c .before .before in
+    let at-tables = at-if1 .before .before .before in
+    sym (every-fails _ _ _ (omega arith)
+    (rests-dep _ _ _ (at-tables .tables .ensures) _ (at-if1 .if1 .taken) (c .before .depends .ensures) ∙ not-true _ (c .if2 .taken)))
 
 loop-less : tie.Need-loop-less Inv-loop μ-loop
 loop-less c = search needs
 
 loop-again : tie.Need-loop-again Inv-loop μ-loop
-loop-again c = (omega arith, every-more _ _ (c .before .before .before .before .loop .inv .1) (rests-dep _ _ _ _ (c .before .before .if1 .taken) (c .before .depends .ensures) ∙ not-false _ (c .if2 .left)))
+loop-again c =
+    let at-if1 = c .before .before in
+    let at-loop = at-if1 .before .before in
+    let at-tables = at-loop .before in (
+      omega arith,
+      every-more _ _ (at-loop .loop .inv .1)
+          (rests-dep _ _ _ (at-tables .tables .ensures) _ (at-if1 .if1 .taken) (c .before .depends .ensures) ∙ not-false _ (c .if2 .left)),
+    )
 
 loop-less-2 : tie.Need-loop-less-2 Inv-loop μ-loop
 loop-less-2 c = search needs
@@ -48,7 +59,7 @@ loop-again-2 : tie.Need-loop-again-2 Inv-loop μ-loop
 loop-again-2 c = (omega arith, every-more _ _ (c .before .before .loop .inv .1) (rests-self _ _ _ (c .if1 .left)))
 
 returns-2 : tie.Need-returns-2 Inv-loop μ-loop
-returns-2 c = sym (every-end _ _ _ (c .before .loop .inv .0) (c .loop-test .left) (c .before .loop .inv .1))
+returns-2 c = sym (every-end _ _ _ (omega arith) (omega arith) (c .before .loop .inv .1))
 
 pub rests-on-all-spec : {M : Type 1} → statement M
 rests-on-all-spec =
@@ -56,7 +67,7 @@ rests-on-all-spec =
     (tie.spec
     Inv-loop
     μ-loop
-    shared-slice-read-n
+    tables-requires
     loop-holds
     add-u
     depends-requires

@@ -16,11 +16,11 @@ Inv-loop sheet n e t₀ t = t ≤ root (sheetOf sheet)
 abbrev μ-loop : tie.MeasureT-loop
 μ-loop sheet n e t₀ t = n - t
 
-shared-slice-read-n : tie.Need-shared-slice-read-n Inv-loop μ-loop
-shared-slice-read-n c = search needs
+tables-requires : tie.Need-tables-requires Inv-loop μ-loop
+tables-requires c κs = search needs
 
-shared-slice-read-e : tie.Need-shared-slice-read-e Inv-loop μ-loop
-shared-slice-read-e c = search needs
+edges-requires : tie.Need-edges-requires Inv-loop μ-loop
+edges-requires c κs = search needs
 
 loop-holds : tie.Need-loop-holds Inv-loop μ-loop
 loop-holds c = search needs
@@ -29,7 +29,9 @@ edge-into-requires : tie.Need-edge-into-requires Inv-loop μ-loop
 edge-into-requires c κs = search needs
 
 returns : tie.Need-returns Inv-loop μ-loop
-returns c = eqb-true _ _ (root-yes _ _ _ (c .before .edge-into .ensures) (c .before .before .before .before .before .before .before .pre) (c .before .before .loop-test .taken) (c .if1 .taken))
+returns c =
+    let at-start = c .before .before .before .before .before .before .before in
+    eqb-true _ _ (root-yes _ _ _ (c .before .edge-into .ensures) (at-start .pre) (omega arith) (omega arith))
 
 add-t : tie.Need-add-t Inv-loop μ-loop
 add-t c = search needs
@@ -38,10 +40,15 @@ loop-less : tie.Need-loop-less Inv-loop μ-loop
 loop-less c = search needs
 
 loop-again : tie.Need-loop-again Inv-loop μ-loop
-loop-again c = past _ _ (c .before .before .before .loop .inv) (eqb-false _ _ (root-no _ _ _ (c .before .edge-into .ensures) (c .before .before .before .before .before .before .before .pre) (c .if1 .left)))
+loop-again c =
+    let at-loop = c .before .before .before in
+    let at-start = at-loop .before .before .before .before in
+    past _ _ (at-loop .loop .inv) (eqb-false _ _ (root-no _ _ _ (c .before .edge-into .ensures) (at-start .pre) (omega arith)))
 
 returns-2 : tie.Need-returns-2 Inv-loop μ-loop
-returns-2 c = absurd (omega (arith, c .before .before .before .before .before .pre .root-in))
+returns-2 c =
+    let at-start = c .before .before .before .before .before in
+    absurd (omega (arith, at-start .pre .root-in))
 
 pub root-of-spec : {M : Type 1} → statement M
 root-of-spec =
@@ -49,8 +56,8 @@ root-of-spec =
     (tie.spec
     Inv-loop
     μ-loop
-    shared-slice-read-n
-    shared-slice-read-e
+    tables-requires
+    edges-requires
     loop-holds
     edge-into-requires
     returns

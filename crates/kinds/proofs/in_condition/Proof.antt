@@ -1,92 +1,64 @@
+-- `in_condition` meets its contract.
+-- Assumes nothing.
+use Rattle.kinds.proofs.Tests.{on-yes, on-other, on-elsewhere}
 -- `in_condition` meets its contract. The loop's invariant: no condition before k speaks of the column.
 -- Assumes nothing.
 use Prim.Native.Nat.{_≤_, _-_}
 use mathlib.Core.Path.{_≡_, sym}
 use mathlib.Core.Bool.{false}
 use Rattle.lists.specs.Loops.{some}
-use Rattle.lists.proofs.Loops.{some-more, some-hit, some-end, no}
+use Rattle.lists.proofs.Loops.{some-more, some-hit, some-end}
 use Rattle.kinds.specs.Asked.{conditionOn}
-use Rattle.kinds.proofs.Tests.{on-facts, on-make}
 use borrow.Author.Needs.{needs}
 use native.Mathlib.Omega.{arith}
 use Rattle.kinds.proofs.in_condition.Statement.{statement}
 use Rattle.kinds.proofs.in_condition.Tie as tie
 
 abbrev Inv-loop : tie.InvT-loop
-Inv-loop sheet t c many from k₀ k = (k ≤ many) × (some (conditionOn sheet t c) k ≡ false)
+Inv-loop sheet t c many k₀ k = (k ≤ many) × (some (conditionOn sheet t c) k ≡ false)
 
 abbrev μ-loop : tie.MeasureT-loop
-μ-loop sheet t c many from k₀ k = many - k
+μ-loop sheet t c many k₀ k = many - k
 
-shared-slice-read-many : tie.Need-shared-slice-read-many Inv-loop μ-loop
-shared-slice-read-many c = search needs
-
-shared-slice-read-from : tie.Need-shared-slice-read-from Inv-loop μ-loop
-shared-slice-read-from c = search needs
-
-add-from : tie.Need-add-from Inv-loop μ-loop
-add-from c = search needs
-
-shared-slice-read-from-2 : tie.Need-shared-slice-read-from-2 Inv-loop μ-loop
-shared-slice-read-from-2 c = search needs
-
-mul-from : tie.Need-mul-from Inv-loop μ-loop
-mul-from c = search needs
-
-add-from-2 : tie.Need-add-from-2 Inv-loop μ-loop
-add-from-2 c = search needs
+conditions-requires : tie.Need-conditions-requires Inv-loop μ-loop
+conditions-requires c κs = search needs
 
 loop-holds : tie.Need-loop-holds Inv-loop μ-loop
 unfolding some
 loop-holds c = search needs
 
+condition-no-requires : tie.Need-condition-no-requires Inv-loop μ-loop
+condition-no-requires c κs = search needs
+
 add-k : tie.Need-add-k Inv-loop μ-loop
 add-k c = search needs
 
-mul-if1 : tie.Need-mul-if1 Inv-loop μ-loop
-mul-if1 c = search needs
-
-add-if1 : tie.Need-add-if1 Inv-loop μ-loop
-add-if1 c = search needs
-
-mul-if1-2 : tie.Need-mul-if1-2 Inv-loop μ-loop
-mul-if1-2 c = search needs
-
-shared-slice-read-if1 : tie.Need-shared-slice-read-if1 Inv-loop μ-loop
-shared-slice-read-if1 c = search needs
-
-mul-if2 : tie.Need-mul-if2 Inv-loop μ-loop
-mul-if2 c = search needs
-
-add-if2 : tie.Need-add-if2 Inv-loop μ-loop
-add-if2 c = search needs
-
-add-if2-2 : tie.Need-add-if2-2 Inv-loop μ-loop
-add-if2-2 c = search needs
-
-mul-if2-2 : tie.Need-mul-if2-2 Inv-loop μ-loop
-mul-if2-2 c = search needs
-
-shared-slice-read-if2 : tie.Need-shared-slice-read-if2 Inv-loop μ-loop
-shared-slice-read-if2 c = search needs
-
 returns : tie.Need-returns Inv-loop μ-loop
-returns c = sym (some-hit _ _ _ (c .before .before .before .before .loop-test .taken) (on-make _ _ _ _ (omega arith)))
+returns c =
+    let at-if1 = c .before .before in
+    let at-condition-no = at-if1 .before .before in
+    sym (some-hit _ _ _ (omega arith) (on-yes _ _ _ _ (at-condition-no .condition-no .ensures) (at-if1 .if1 .taken) (c .if2 .taken)))
 
 loop-less : tie.Need-loop-less Inv-loop μ-loop
 loop-less c = search needs
 
 loop-again : tie.Need-loop-again Inv-loop μ-loop
-loop-again c = (omega arith, some-more _ _ (c .before .before .before .before .before .loop .inv .1) (sym (no _ (λ h. let f = on-facts _ _ _ _ h in omega arith))))
+loop-again c =
+    let at-condition-no = c .before .before .before .before in
+    let at-loop = at-condition-no .before .before in
+    (omega arith, some-more _ _ (at-loop .loop .inv .1) (on-elsewhere _ _ _ _ (at-condition-no .condition-no .ensures) (c .if2 .left)))
 
 loop-less-2 : tie.Need-loop-less-2 Inv-loop μ-loop
 loop-less-2 c = search needs
 
 loop-again-2 : tie.Need-loop-again-2 Inv-loop μ-loop
-loop-again-2 c = (omega arith, some-more _ _ (c .before .before .before .loop .inv .1) (sym (no _ (λ h. let f = on-facts _ _ _ _ h in omega arith))))
+loop-again-2 c =
+    let at-condition-no = c .before .before in
+    let at-loop = at-condition-no .before .before in
+    (omega arith, some-more _ _ (at-loop .loop .inv .1) (on-other _ _ _ _ (at-condition-no .condition-no .ensures) (c .if1 .left)))
 
 returns-2 : tie.Need-returns-2 Inv-loop μ-loop
-returns-2 c = sym (some-end _ _ _ (c .before .loop .inv .0) (c .loop-test .left) (c .before .loop .inv .1))
+returns-2 c = sym (some-end _ _ _ (omega arith) (omega arith) (c .before .loop .inv .1))
 
 pub in-condition-spec : {M : Type 1} → statement M
 in-condition-spec =
@@ -94,23 +66,10 @@ in-condition-spec =
     (tie.spec
     Inv-loop
     μ-loop
-    shared-slice-read-many
-    shared-slice-read-from
-    add-from
-    shared-slice-read-from-2
-    mul-from
-    add-from-2
+    conditions-requires
     loop-holds
+    condition-no-requires
     add-k
-    mul-if1
-    add-if1
-    mul-if1-2
-    shared-slice-read-if1
-    mul-if2
-    add-if2
-    add-if2-2
-    mul-if2-2
-    shared-slice-read-if2
     returns
     loop-less
     loop-again

@@ -42,13 +42,18 @@ is-tied-requires : tie.Need-is-tied-requires Inv-loop μ-loop
 is-tied-requires c κs = search needs
 
 returns : tie.Need-returns Inv-loop μ-loop
-returns c = sym (every-fails _ _ _ (c .before .before .before .before .before .loop-test .taken) (stays-not _ _ _ _ _ (c .before .before .if1 .taken) (sym (c .before .is-tied .ensures) ∙ c .if2 .taken)))
+returns c =
+    let at-if1 = c .before .before in
+    let at-test = at-if1 .before .before .before in
+    sym (every-fails _ _ _ (at-test .loop-test .taken) (stays-not _ _ _ _ _ (at-if1 .if1 .taken) (sym (c .before .is-tied .ensures) ∙ c .if2 .taken)))
 
 loop-less : tie.Need-loop-less Inv-loop μ-loop
 loop-less c = search needs
 
 loop-again : tie.Need-loop-again Inv-loop μ-loop
-loop-again c = (omega arith, every-more _ _ (c .before .before .before .before .before .before .loop .inv .1) (stays-free _ _ _ _ _ (sym (c .before .is-tied .ensures) ∙ c .if2 .left)))
+loop-again c =
+    let at-loop = c .before .before .before .before .before .before in
+    (omega arith, every-more _ _ (at-loop .loop .inv .1) (stays-free _ _ _ _ _ (sym (c .before .is-tied .ensures) ∙ c .if2 .left)))
 
 loop-less-2 : tie.Need-loop-less-2 Inv-loop μ-loop
 loop-less-2 c = search needs

@@ -23,18 +23,39 @@ shared-slice-read-if3-2 c = search needs
 
 returns-3 : tie.Need-returns-3
 unfolding twoRows
-returns-3 c = rw (eq-eqb _ _ (c .before .before .before .before .if1 .left), eq-eqb _ _ (c .before .before .before .if2 .left), ne-eqb _ _ (c .if3 .taken))
+returns-3 c =
+    let at-if2 = c .before .before .before in
+    let at-if1 = at-if2 .before in
+    rw (eq-eqb _ _ (at-if1 .if1 .left), eq-eqb _ _ (at-if2 .if2 .left), ne-eqb _ _ (c .if3 .taken))
 
 tied-stay-requires : tie.Need-tied-stay-requires
 tied-stay-requires c κs = search needs
 
 returns-4 : tie.Need-returns-4
 unfolding twoRows
-returns-4 c = rw (eq-eqb _ _ (c .before .before .before .before .before .before .if1 .left), eq-eqb _ _ (c .before .before .before .before .before .if2 .left), eq-eqb _ _ (c .before .before .if3 .left), sym (c .before .tied-stay .ensures) ∙ not-true _ (c .if4 .taken))
+returns-4 c =
+    let at-if3 = c .before .before in
+    let at-if2 = at-if3 .before .before .before in
+    let at-if1 = at-if2 .before in
+    rw (
+      eq-eqb _ _ (at-if1 .if1 .left),
+      eq-eqb _ _ (at-if2 .if2 .left),
+      eq-eqb _ _ (at-if3 .if3 .left),
+      sym (c .before .tied-stay .ensures) ∙ not-true _ (c .if4 .taken),
+    )
 
 returns-5 : tie.Need-returns-5
 unfolding twoRows
-returns-5 c = rw (eq-eqb _ _ (c .before .before .before .before .before .before .if1 .left), eq-eqb _ _ (c .before .before .before .before .before .if2 .left), eq-eqb _ _ (c .before .before .if3 .left), sym (c .before .tied-stay .ensures) ∙ not-false _ (c .if4 .left))
+returns-5 c =
+    let at-if3 = c .before .before in
+    let at-if2 = at-if3 .before .before .before in
+    let at-if1 = at-if2 .before in
+    rw (
+      eq-eqb _ _ (at-if1 .if1 .left),
+      eq-eqb _ _ (at-if2 .if2 .left),
+      eq-eqb _ _ (at-if3 .if3 .left),
+      sym (c .before .tied-stay .ensures) ∙ not-false _ (c .if4 .left),
+    )
 
 pub two-rows-spec : {M : Type 1} → statement M
 two-rows-spec =

@@ -2,17 +2,20 @@
 -- Assumes nothing.
 use Rattle.layout.proofs.Sizes.{columns-of-list, columns-none, columns-shown}
 use borrow.Author.Needs.{needs}
+use native.Mathlib.Omega.{arith}
 use Rattle.layout.proofs.columns_in.Statement.{statement}
 use Rattle.layout.proofs.columns_in.Tie as tie
 
-shared-slice-read-if1 : tie.Need-shared-slice-read-if1
-shared-slice-read-if1 c = search needs
+tables-requires : tie.Need-tables-requires
+tables-requires c κs = search needs
 
-shared-slice-read-result : tie.Need-shared-slice-read-result
-shared-slice-read-result c = search needs
+listed-requires : tie.Need-listed-requires
+listed-requires c κs = search needs
 
 returns : tie.Need-returns
-returns c = columns-of-list _ (c .before .before .before .before .pre .0) _ (c .before .before .before .before .pre .1 .1 .1) (c .before .if1 .taken)
+returns c =
+    let at-start = c .before .before .before .before in
+    columns-of-list _ (at-start .pre .0) _ _ (at-start .pre .1 .1 .1) (omega arith) (c .listed .ensures)
 
 mul-if2 : tie.Need-mul-if2
 mul-if2 c = search needs
@@ -21,20 +24,24 @@ array-read-if2 : tie.Need-array-read-if2
 array-read-if2 c = search needs
 
 returns-2 : tie.Need-returns-2
-returns-2 c = columns-none _ (c .before .before .before .before .pre .0) _ _ (c .before .before .before .before .pre .1 .0) (c .before .if1 .left) (c .if2 .taken)
+returns-2 c =
+    let at-start = c .before .before .before .before in
+    columns-none _ (at-start .pre .0) _ _ (at-start .pre .1 .0) (omega arith) (c .if2 .taken)
 
 marks-in-requires : tie.Need-marks-in-requires
 marks-in-requires c κs = search needs
 
 returns-3 : tie.Need-returns-3
-returns-3 c = columns-shown _ (c .before .before .before .before .before .pre .0) _ _ (c .before .before .before .before .before .pre .1 .0) (c .before .before .if1 .left) _ _ (c .before .before .before .before .before .pre .1 .1 .0) (c .before .if2 .left) (c .marks-in .ensures)
+returns-3 c =
+    let at-start = c .before .before .before .before .before in
+    columns-shown _ (at-start .pre .0) _ _ (at-start .pre .1 .0) (omega arith) _ _ (at-start .pre .1 .1 .0) (c .before .if2 .left) (c .marks-in .ensures)
 
 pub columns-in-spec : {M : Type 1} → statement M
 columns-in-spec =
     tie.close
     (tie.spec
-    shared-slice-read-if1
-    shared-slice-read-result
+    tables-requires
+    listed-requires
     returns
     mul-if2
     array-read-if2

@@ -20,8 +20,8 @@ Inv-loop sheet kept shows m r₀ part₀ r part = (part ≤ m) × (r ≡ filled 
 abbrev μ-loop : tie.MeasureT-loop
 μ-loop sheet kept shows m r₀ part₀ r part = m - part
 
-shared-slice-read-m : tie.Need-shared-slice-read-m Inv-loop μ-loop
-shared-slice-read-m c = search needs
+tables-requires : tie.Need-tables-requires Inv-loop μ-loop
+tables-requires c κs = search needs
 
 add-m : tie.Need-add-m Inv-loop μ-loop
 add-m c = search needs
@@ -31,7 +31,9 @@ unfolding filled
 loop-holds c = search needs
 
 columns-in-requires : tie.Need-columns-in-requires Inv-loop μ-loop
-columns-in-requires c κs = (c .before .before .before .before .pre .0, (c .before .before .before .before .pre .1 .0, (c .before .before .before .before .pre .1 .1, omega arith)))
+columns-in-requires c κs =
+    let at-start = c .before .before .before .before in
+    (at-start .pre .0, (at-start .pre .1 .0, (at-start .pre .1 .1, omega arith)))
 
 mul-r : tie.Need-mul-r Inv-loop μ-loop
 mul-r c = search needs
@@ -50,7 +52,7 @@ loop-again c = (omega arith, filled-more _ _ _ _ _ (c .before .before .loop .inv
 
 returns : tie.Need-returns Inv-loop μ-loop
 unfolding columnsOf
-returns c = parts-end _ _ _ _ _ (c .before .loop .inv .0) (c .loop-test .left) (c .before .loop .inv .1)
+returns c = parts-end _ _ _ _ _ (omega arith) (omega arith) (c .before .loop .inv .1)
 
 pub columns-of-spec : {M : Type 1} → statement M
 columns-of-spec =
@@ -58,7 +60,7 @@ columns-of-spec =
     (tie.spec
     Inv-loop
     μ-loop
-    shared-slice-read-m
+    tables-requires
     add-m
     loop-holds
     columns-in-requires

@@ -42,7 +42,9 @@ loop-less : tie.Need-loop-less Inv-loop μ-loop
 loop-less c = search needs
 
 loop-again : tie.Need-loop-again Inv-loop μ-loop
-loop-again c = (omega arith, filled-more _ _ _ _ _ (c .before .before .before .loop .inv .1) (dep-mark _ _ _ _ (c .before .depends .ensures) (c .mark-of .ensures)))
+loop-again c =
+    let at-loop = c .before .before .before in
+    (omega arith, filled-more _ _ _ _ _ (at-loop .loop .inv .1) (dep-mark _ _ _ _ (c .before .depends .ensures) (c .mark-of .ensures)))
 
 returns : tie.Need-returns Inv-loop μ-loop
 unfolding depOf

@@ -21,8 +21,8 @@ Inv-loop sheet n m₀ t₀ m t = (t ≤ n) × (m ≡ filled (keptAt (sheetOf she
 abbrev μ-loop : tie.MeasureT-loop
 μ-loop sheet n m₀ t₀ m t = n - t
 
-shared-slice-read-n : tie.Need-shared-slice-read-n Inv-loop μ-loop
-shared-slice-read-n c = search needs
+tables-requires : tie.Need-tables-requires Inv-loop μ-loop
+tables-requires c κs = search needs
 
 loop-holds : tie.Need-loop-holds Inv-loop μ-loop
 unfolding filled
@@ -52,7 +52,7 @@ loop-again c = (omega arith, filled-more _ _ _ _ _ (c .before .before .before .l
 
 returns : tie.Need-returns Inv-loop μ-loop
 unfolding keptOf
-returns c = tables-end _ _ _ _ _ (c .before .loop .inv .0) (c .loop-test .left) (c .before .loop .inv .1)
+returns c = tables-end _ _ _ _ _ (omega arith) (omega arith) (c .before .loop .inv .1)
 
 pub kept-marks-spec : {M : Type 1} → statement M
 kept-marks-spec =
@@ -60,7 +60,7 @@ kept-marks-spec =
     (tie.spec
     Inv-loop
     μ-loop
-    shared-slice-read-n
+    tables-requires
     loop-holds
     is-kept-requires
     mark-of-requires

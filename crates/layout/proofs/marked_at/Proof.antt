@@ -37,7 +37,10 @@ array-read-if1 : tie.Need-array-read-if1 Inv-loop μ-loop
 array-read-if1 c = search needs
 
 returns : tie.Need-returns Inv-loop μ-loop
-returns c = marked-found _ _ _ _ _ (c .before .before .before .loop .inv .1 .1 .1) (c .before .before .loop-test .taken) (c .if2 .taken) (c .before .if1 .taken)
+returns c =
+    let at-test = c .before .before in
+    let at-loop = at-test .before in
+    marked-found _ _ _ _ _ (at-loop .loop .inv .1 .1 .1) (at-test .loop-test .taken) (c .if2 .taken) (c .before .if1 .taken)
 
 add-many : tie.Need-add-many Inv-loop μ-loop
 add-many c = search needs
@@ -46,7 +49,9 @@ loop-less : tie.Need-loop-less Inv-loop μ-loop
 loop-less c = search needs
 
 loop-again : tie.Need-loop-again Inv-loop μ-loop
-loop-again c = (omega arith, (omega arith, (omega arith, counted-hit _ _ _ (c .before .before .before .loop .inv .1 .1 .1) (marked-yes _ _ _ (c .before .if1 .taken)))))
+loop-again c =
+    let at-loop = c .before .before .before in
+    (omega arith, (omega arith, (omega arith, counted-hit _ _ _ (at-loop .loop .inv .1 .1 .1) (marked-yes _ _ _ (c .before .if1 .taken)))))
 
 loop-less-2 : tie.Need-loop-less-2 Inv-loop μ-loop
 loop-less-2 c = search needs
@@ -55,7 +60,8 @@ loop-again-2 : tie.Need-loop-again-2 Inv-loop μ-loop
 loop-again-2 c = (omega arith, (omega arith, (omega arith, counted-miss _ _ _ (c .before .before .loop .inv .1 .1 .1) (marked-no _ _ _ (c .if1 .left)))))
 
 returns-2 : tie.Need-returns-2 Inv-loop μ-loop
-returns-2 c = marked-past _ _ _ _ (counted-end _ _ _ _ (c .before .loop .inv .0) (c .loop-test .left) (c .before .loop .inv .1 .1 .1)) (c .before .loop .inv .1 .0)
+returns-2 c =
+    marked-past _ _ _ _ (counted-end _ _ _ _ (c .before .loop .inv .0) (c .loop-test .left) (c .before .loop .inv .1 .1 .1)) (c .before .loop .inv .1 .0)
 
 pub marked-at-spec : {M : Type 1} → statement M
 marked-at-spec =

@@ -5,8 +5,8 @@ use borrow.Author.Needs.{needs}
 use Rattle.layout.proofs.plan_for.Statement.{statement}
 use Rattle.layout.proofs.plan_for.Tie as tie
 
-shared-slice-read-tables : tie.Need-shared-slice-read-tables
-shared-slice-read-tables c = search needs
+tables-requires : tie.Need-tables-requires
+tables-requires c κs = search needs
 
 root-of-requires : tie.Need-root-of-requires
 root-of-requires c κs = search needs
@@ -39,14 +39,27 @@ need-marks-requires : tie.Need-need-marks-requires
 need-marks-requires c κs = search needs
 
 returns : tie.Need-returns
-returns c = plan-made _ (c .before .before .before .before .before .before .before .before .before .before .before .before .pre .joined .rules) _ _ _ _ _ _ _ _ _ _ (c .before .before .before .before .before .before .before .before .before .root-of .ensures) (c .before .before .store-of .ensures) (c .before .before .before .before .before .before .before .before .kept-marks .ensures) (c .before .before .before .before .before .before .before .shows-marks .ensures)
-    (c .before .before .before .before .before .before .marked-lists .ensures) (c .before .before .before .before .before .columns-of .ensures) (c .before .before .before .before .rooms-of .ensures) (c .before .before .before .starts-of .ensures) (c .before .dep-marks .ensures) (c .need-marks .ensures)
+returns c =
+    let at-store-of = c .before .before in
+    let at-starts-of = at-store-of .before in
+    let at-rooms-of = at-starts-of .before in
+    let at-columns-of = at-rooms-of .before in
+    let at-marked-lists = at-columns-of .before in
+    let at-shows-marks = at-marked-lists .before in
+    let at-kept-marks = at-shows-marks .before in
+    let at-root-of = at-kept-marks .before in
+    let at-tables = at-root-of .before in
+    let at-start = at-tables .before .before in
+    plan-made _ (at-start .pre .joined .rules) _ _ _ _ _ _ _ _ _ _ _ (at-tables .tables .ensures) (at-root-of .root-of .ensures)
+    (at-store-of .store-of .ensures) (at-kept-marks .kept-marks .ensures) (at-shows-marks .shows-marks .ensures) (at-marked-lists .marked-lists .ensures)
+    (at-columns-of .columns-of .ensures) (at-rooms-of .rooms-of .ensures) (at-starts-of .starts-of .ensures) (c .before .dep-marks .ensures)
+    (c .need-marks .ensures)
 
 pub plan-for-spec : {M : Type 1} → statement M
 plan-for-spec =
     tie.close
     (tie.spec
-    shared-slice-read-tables
+    tables-requires
     root-of-requires
     kept-marks-requires
     shows-marks-requires

@@ -20,7 +20,10 @@ mark-of-requires : tie.Need-mark-of-requires
 mark-of-requires c κs = search needs
 
 returns-2 : tie.Need-returns-2
-returns-2 c = shows-mark _ _ _ _ (sym (c .before .before .before .has-column .ensures) ∙ not-false _ (c .before .before .if1 .left)) (c .before .is-shown .ensures) (c .mark-of .ensures)
+returns-2 c =
+    let at-if1 = c .before .before in
+    let at-has-column = at-if1 .before in
+    shows-mark _ _ _ _ (sym (at-has-column .has-column .ensures) ∙ not-false _ (at-if1 .if1 .left)) (c .before .is-shown .ensures) (c .mark-of .ensures)
 
 pub shows-at-spec : {M : Type 1} → statement M
 shows-at-spec =

@@ -21,8 +21,8 @@ Inv-loop sheet rooms columns m r₀ at₀ part₀ r at part = (part ≤ m) × ((
 abbrev μ-loop : tie.MeasureT-loop
 μ-loop sheet rooms columns m r₀ at₀ part₀ r at part = m - part
 
-shared-slice-read-m : tie.Need-shared-slice-read-m Inv-loop μ-loop
-shared-slice-read-m c = search needs
+tables-requires : tie.Need-tables-requires Inv-loop μ-loop
+tables-requires c κs = search needs
 
 add-m : tie.Need-add-m Inv-loop μ-loop
 add-m c = search needs
@@ -38,10 +38,16 @@ array-write-r : tie.Need-array-write-r Inv-loop μ-loop
 array-write-r c = search needs
 
 size-of-requires : tie.Need-size-of-requires Inv-loop μ-loop
-size-of-requires c κs = (c .before .before .before .before .pre .0, (c .before .before .before .before .pre .1 .0, (c .before .before .before .before .pre .1 .1, omega arith)))
+size-of-requires c κs =
+    let at-start = c .before .before .before .before in
+    (at-start .pre .0, (at-start .pre .1 .0, (at-start .pre .1 .1, omega arith)))
 
 add-at : tie.Need-add-at Inv-loop μ-loop
-add-at c = let l = start-small _ (c .before .before .before .before .before .pre .0) _ (c .before .before .loop .inv .0) in omega (arith, c .size-of .ensures .1, c .before .before .loop .inv .1 .1)
+add-at c =
+    let at-loop = c .before .before in
+    let at-start = at-loop .before .before .before in
+    let l = start-small _ (at-start .pre .0) (at-loop .loop .part) (omega arith) in
+    omega (arith, c .size-of .ensures .1, at-loop .loop .inv .1 .1)
 
 add-part : tie.Need-add-part Inv-loop μ-loop
 add-part c = search needs
@@ -50,11 +56,15 @@ loop-less : tie.Need-loop-less Inv-loop μ-loop
 loop-less c = search needs
 
 loop-again : tie.Need-loop-again Inv-loop μ-loop
-loop-again c = (omega arith, (filled-more _ _ _ _ _ (c .before .before .loop .inv .1 .0) (c .before .before .loop .inv .1 .1), start-more _ _ _ _ (c .before .before .loop .inv .1 .1) (c .size-of .ensures .0)))
+loop-again c =
+    let at-loop = c .before .before in (
+      omega arith,
+      (filled-more _ _ _ _ _ (at-loop .loop .inv .1 .0) (at-loop .loop .inv .1 .1), start-more _ _ _ _ (at-loop .loop .inv .1 .1) (c .size-of .ensures .0)),
+    )
 
 returns : tie.Need-returns Inv-loop μ-loop
 unfolding startsOf
-returns c = parts-end _ _ _ _ _ (c .before .loop .inv .0) (c .loop-test .left) (c .before .loop .inv .1 .0)
+returns c = parts-end _ _ _ _ _ (omega arith) (omega arith) (c .before .loop .inv .1 .0)
 
 pub starts-of-spec : {M : Type 1} → statement M
 starts-of-spec =
@@ -62,7 +72,7 @@ starts-of-spec =
     (tie.spec
     Inv-loop
     μ-loop
-    shared-slice-read-m
+    tables-requires
     add-m
     loop-holds
     mul-r

@@ -6,11 +6,13 @@ use native.Mathlib.Omega.{arith}
 use Rattle.layout.proofs.store_of.Statement.{statement}
 use Rattle.layout.proofs.store_of.Tie as tie
 
-shared-slice-read-n : tie.Need-shared-slice-read-n
-shared-slice-read-n c = search needs
+tables-requires : tie.Need-tables-requires
+tables-requires c κs = search needs
 
 size-of-requires : tie.Need-size-of-requires
-size-of-requires c κs = search needs
+size-of-requires c κs =
+    let at-start = c .before .before in
+    (at-start .pre .0, (at-start .pre .1 .0, (at-start .pre .1 .1 .0, omega arith)))
 
 mul-result : tie.Need-mul-result
 mul-result c = search needs
@@ -19,12 +21,17 @@ array-read-result : tie.Need-array-read-result
 array-read-result c = search needs
 
 add-result : tie.Need-add-result
-add-result c = let e = list-start _ (c .before .before .before .pre .0) _ (c .before .before .before .pre .1 .1 .1) in omega (arith, e .1, c .size-of .ensures .1)
+add-result c =
+    let at-start = c .before .before .before in
+    let e = list-start _ (at-start .pre .0) _ (at-start .pre .1 .1 .1) _ (c .before .tables .ensures) in
+    omega (arith, e .1, c .size-of .ensures .1)
 
 returns : tie.Need-returns
-returns c = store-is _ (c .before .before .before .pre .0) _ _ (list-start _ (c .before .before .before .pre .0) _ (c .before .before .before .pre .1 .1 .1) .0) (c .size-of .ensures .0)
+returns c =
+    let at-start = c .before .before .before in
+    store-is _ (at-start .pre .0) _ (at-start .pre .1 .1 .1) _ (c .before .tables .ensures) _ (c .size-of .ensures .0)
 
 pub store-of-spec : {M : Type 1} → statement M
 store-of-spec =
     tie.close
-    (tie.spec shared-slice-read-n size-of-requires mul-result array-read-result add-result returns)
+    (tie.spec tables-requires size-of-requires mul-result array-read-result add-result returns)
