@@ -21,7 +21,8 @@ use Rattle.sheet.proofs.Numbers.{length-upTo}
 pub from-split : (i a b : ℕ) → from i (a + b) ≡ from i a ++ from (i + a) b
 from-split i zero b = ap₂ from (sym (add-zero i)) (zero-add b)
 from-split i (suc a) b =
-    ap (from i) (suc-add a b) ∙ ap (λ (l : List ℕ). i ∷ l) (from-split (suc i) a b ∙ ap (λ (k : ℕ). from (suc i) a ++ from k b) (suc-add i a ∙ sym (add-suc i a)))
+    ap (from i) (suc-add a b)
+    ∙ ap (λ (l : List ℕ). i ∷ l) (from-split (suc i) a b ∙ ap (λ (k : ℕ). from (suc i) a ++ from k b) (suc-add i a ∙ sym (add-suc i a)))
 
 -- the numbers below n: those below c, and the others
 pub upTo-split : (n c : ℕ) → c ≤ n → upTo n ≡ upTo c ++ from c (n - c)

@@ -2,22 +2,20 @@
 -- Assumes nothing.
 use Prim.Native.Nat.{ℕ, zero, suc, _+_, _-_, _*_, _/_, _%_, _<_, _≤_}
 use mathlib.Core.Path.{_≡_, refl, sym, ap, ap₂, subst, _∙_}
-use mathlib.Core.Bool.{Bool, _&&_}
+use mathlib.Core.Bool.{_&&_}
 use native.Mathlib.Nat.{add-zero, add-suc}
 use native.Mathlib.Omega.{arith}
-use lib.Dec.{ltb}
 use lib.ListN.{getD, replicate}
-use borrow.Author.Tests.{lt-ltb}
-use Rattle.lists.specs.Lists.{Words, at, member}
+use Rattle.lists.specs.Lists.{Words, at}
 use Rattle.lists.specs.Totals.{one}
 use Rattle.lists.specs.Loops.{filled}
 use Rattle.lists.proofs.Loops.{length-filled, getD-filled}
 use Rattle.meaning.specs.Sheet.{Sheet, sheetOf, sheetRefusal, hasColumn, tableCount}
-use Rattle.meaning.specs.Plan.{dep, need, isShown, shown, columns, size, start, storeLength}
+use Rattle.meaning.specs.Plan.{isShown, shown, columns, size, start, storeLength}
 use Rattle.sheet.proofs.Words.{n-is}
 use Rattle.sheet.specs.Tree.{GoodSheet}
 use Rattle.sheet.proofs.Good.{zero-good, good-sheet}
-use Rattle.layout.specs.Plans.{keptAt, keptOf, showsAt, showsOf, shownAt, shownOf, columnsOf, roomAt, roomsOf, startsOf, depAt, depOf, needAt, needOf, planFor, planBeside, checkedOf}
+use Rattle.layout.specs.Plans.{keptAt, keptOf, showsAt, showsOf, shownAt, shownOf, columnsOf, roomAt, roomsOf, startsOf, planFor, planBeside, checkedOf}
 use Rattle.layout.specs.Planned.{Lengths, Planned}
 use Rattle.layout.specs.declared.Plan.{Plan}
 use Rattle.layout.proofs.Shown.{width-small}
@@ -26,7 +24,7 @@ use Rattle.laws.proofs.Stores.{start-next}
 use Rattle.layout.proofs.Sizes.{shown-few}
 
 pub plan-lengths : (s : Sheet) → Lengths (planFor s)
-unfolding planFor keptOf showsOf shownOf columnsOf roomsOf startsOf depOf needOf
+unfolding planFor keptOf showsOf shownOf columnsOf roomsOf startsOf
 plan-lengths s =
     record {
       kept-length = length-filled _ _ _;
@@ -35,12 +33,11 @@ plan-lengths s =
       columns-length = length-filled _ _ _;
       rooms-length = length-filled _ _ _;
       starts-length = length-filled _ _ _;
-      dep-length = length-filled _ _ _;
-      need-length = length-filled _ _ _;
     }
 
 -- an array with eight places for each table, read at 8t + j
-rows-read : (f : ℕ → ℕ) (g : ℕ → ℕ → ℕ) (t j : ℕ) → t < 8 → j < 8 → ((i : ℕ) → f i ≡ g (i / 8) (i % 8)) → getD (filled f 64 (replicate 64 0)) (8 * t + j) 0 ≡ g t j
+rows-read : (f : ℕ → ℕ) (g : ℕ → ℕ → ℕ) (t j : ℕ) → t < 8 → j < 8 → ((i : ℕ) → f i ≡ g (i / 8) (i % 8))
+    → getD (filled f 64 (replicate 64 0)) (8 * t + j) 0 ≡ g t j
 rows-read f g t j h l e =
     let a : (8 * t + j) / 8 ≡ t = omega arith in
     let b : (8 * t + j) % 8 ≡ j = omega arith in
@@ -72,7 +69,7 @@ module _ (ws : Words) (g : GoodSheet ws) where
   small = omega (arith, Sizes.start-small ws g (sheetOf ws .n + 1) (omega (arith, n-is ws)), n-few)
 
   pub plan-facts : Planned (sheetOf ws) (planFor (sheetOf ws))
-  unfolding planFor keptOf keptAt showsOf showsAt shownOf shownAt columnsOf roomsOf roomAt startsOf depOf depAt needOf needAt
+  unfolding planFor keptOf keptAt showsOf showsAt shownOf shownAt columnsOf roomsOf roomAt startsOf
   plan-facts =
       record {
         lengths = plan-lengths (sheetOf ws);
@@ -93,10 +90,6 @@ module _ (ws : Words) (g : GoodSheet ws) where
         rooms-small = λ part h. Sizes.room-small ws g part (below part h);
         starts-at = λ part h. parts-read (start s) part h;
         parts-in = ends;
-        dep-at = λ t u h l. rows-read (depAt s) (λ t u. one (member u (dep s t))) t u h l (λ i. refl);
-        need-at = λ t u h l.
-            rows-read (needAt s) (λ t u. one (ltb t (s .n) && member u (need s t))) t u (omega (arith, n-few)) l (λ i. refl)
-            ∙ ap (λ (b : Bool). one (b && member u (need s t))) (lt-ltb t (s .n) h);
       }
     where
       s : Sheet

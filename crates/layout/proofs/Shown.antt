@@ -32,7 +32,8 @@ module _ (ws : Words) (r : Rules ws) where
   pub width-past : (t : ℕ) → tableCount ws ≤ t → width (sheetOf ws) t ≡ 0
   width-past t h =
       ap (λ (l : List ℕ). at l t) (widths-are ws (r .counts))
-      ∙ List·getD-eq-default (map (widthNo ws) (upTo (tableCount ws))) 0 (omega (arith, length-map (upTo (tableCount ws)) (widthNo ws), length-from 0 (tableCount ws)))
+      ∙ List·getD-eq-default (map (widthNo ws) (upTo (tableCount ws))) 0
+      (omega (arith, length-map (upTo (tableCount ws)) (widthNo ws), length-from 0 (tableCount ws)))
 
   pub width-small : (t : ℕ) → width (sheetOf ws) t ≤ 8
   width-small t = go (ltb t (tableCount ws)) refl
@@ -61,7 +62,8 @@ module _ (ws : Words) (r : Rules ws) where
   pub marked-columns : (t : ℕ) → t < 8 → markedIn (showsOf (sheetOf ws)) t ≡ shown (sheetOf ws) t
   unfolding markedIn shown
   marked-columns t h =
-      select-same (marked (showsOf (sheetOf ws)) t) (λ c. ltb c (width (sheetOf ws) t) && isShown (sheetOf ws) t c) (upTo 8) (λ c m. marked-shows t c h (upTo-mem 8 c m))
+      select-same (marked (showsOf (sheetOf ws)) t) (λ c. ltb c (width (sheetOf ws) t) && isShown (sheetOf ws) t c) (upTo 8)
+      (λ c m. marked-shows t c h (upTo-mem 8 c m))
       ∙ select-narrow (isShown (sheetOf ws) t) (width (sheetOf ws) t) 8 (width-small t)
 
   pub lists-shown : listsOf (showsOf (sheetOf ws)) ≡ shownOf (sheetOf ws)

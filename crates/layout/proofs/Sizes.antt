@@ -1,23 +1,23 @@
 -- Columns, rooms and starts of a good sheet: what the arrays hold, and how large it is.
 -- Assumes nothing.
-use Prim.Native.Nat.{ℕ, zero, suc, _+_, _*_, _/_, _%_, _<_, _≤_}
+use Prim.Native.Nat.{ℕ, zero, suc, _+_, _*_, _<_, _≤_}
 use mathlib.Core.Path.{_≡_, refl, sym, ap, ap₂, _∙_}
-use mathlib.Core.Bool.{Bool, true, false, _&&_}
-use mathlib.Core.List.{List, [], _∷_, map}
+use mathlib.Core.Bool.{Bool, true, false}
+use mathlib.Core.List.{List}
 use native.Mathlib.Nat.{mul-le-mul}
 use native.Mathlib.Numerals.{add-one}
 use native.Mathlib.Omega.{arith}
 use lib.Dec.{ltb}
 use lib.ListN.{length, getD, replicate, length-map}
-use borrow.Author.Tests.{lt-ltb, le-ltb, ltb-true, ltb-false}
-use Rattle.lists.specs.Lists.{Words, at, flat, member, upTo}
+use borrow.Author.Tests.{ltb-true, ltb-false}
+use Rattle.lists.specs.Lists.{Words, at, upTo}
 use Rattle.lists.specs.Totals.{one}
 use Rattle.lists.specs.Loops.{filled}
 use Rattle.lists.proofs.Truth.{isT, false→F}
 use Rattle.lists.proofs.Loops.{getD-filled}
 use Rattle.lists.proofs.Places.{length-from}
 use Rattle.meaning.specs.Sheet.{Sheet, sheetOf, width, room, tableCount, listedCount}
-use Rattle.meaning.specs.Plan.{dep, need, needIn, kept, isShown, shown, columns, size, start, storeLength}
+use Rattle.meaning.specs.Plan.{kept, isShown, shown, columns, size, start, storeLength}
 use Rattle.laws.proofs.Stores.{start-next}
 use Rattle.laws.proofs.Columns.{columns-side, columns-unkept, columns-list}
 use Rattle.sheet.specs.Counted.{counted}
@@ -25,9 +25,8 @@ use Rattle.sheet.specs.Numbered.{listingNo, roomNo}
 use Rattle.sheet.proofs.Words.{n-is, listed-are, room-is}
 use Rattle.sheet.proofs.Numbers.{length-upTo}
 use Rattle.sheet.specs.Tree.{GoodSheet}
-use Rattle.derive.specs.Derived.{depNo, needNo}
 use Rattle.layout.specs.Marks.{marked, markedIn}
-use Rattle.layout.specs.Plans.{keptAt, keptOf, showsOf, columnsOf, roomAt, roomsOf, startsOf, depAt, needAt}
+use Rattle.layout.specs.Plans.{keptAt, keptOf, showsOf, columnsOf, roomAt, roomsOf, startsOf}
 use Rattle.layout.proofs.Shown.{width-small, marked-columns}
 
 -- how many pass is no more than how many there are
@@ -39,26 +38,6 @@ counted-le t (suc n) = step (t n) (counted-le t n)
     step : (b : Bool) → counted t n ≤ n → counted t n + one b ≤ suc n
     step true h = omega arith
     step false h = omega arith
-
--- Dep is Dep+ over one edge
-flat-ones : (xs : List ℕ) → flat (map (λ p. p ∷ []) xs) ≡ xs
-flat-ones [] = refl
-flat-ones (x ∷ xs) = ap (λ (l : List ℕ). x ∷ l) (flat-ones xs)
-
-pub dep-mark : (ws : Words) (i v : ℕ) (b : Bool) → b ≡ depNo ws 1 (i / 8) (i % 8) → v ≡ one b → v ≡ depAt (sheetOf ws) i
-unfolding depNo depAt
-dep-mark ws i v b e m = m ∙ ap one (e ∙ ap (member (i % 8)) (flat-ones (dep (sheetOf ws) (i / 8))))
-
-module _ (ws : Words) {n : ℕ} (q : n ≡ tableCount ws) (i : ℕ) where
-  pub need-none : n ≤ i / 8 → 0 ≡ needAt (sheetOf ws) i
-  unfolding needAt
-  need-none h = rw (n-is ws ∙ sym q, le-ltb (i / 8) n h)
-
-  pub need-mark : (v : ℕ) (b : Bool) → i / 8 < n → b ≡ needNo ws n (i / 8) (i % 8) → v ≡ one b → v ≡ needAt (sheetOf ws) i
-  unfolding needAt needNo need
-  need-mark v b h e m =
-      m ∙ ap one (e ∙ sym (ap₂ (λ (b : Bool) (k : ℕ). b && member (i % 8) (needIn (sheetOf ws) k (i / 8)))
-      (ap (ltb (i / 8)) (n-is ws ∙ sym q) ∙ lt-ltb (i / 8) n h) (n-is ws ∙ sym q)))
 
 -- the parts stand one behind the other
 pub start-first : (s : Sheet) → start s 0 ≡ 9
@@ -104,7 +83,8 @@ module _ (ws : Words) (g : GoodSheet ws) where
         go true q w = absurd (omega arith)
         go false q w = sym (columns-unkept (sheetOf ws) part (omega (arith, n-is ws)) (false→F q))
 
-    pub columns-shown : (shows : List ℕ) (k : ℕ) → shows ≡ showsOf (sheetOf ws) → (getD marks part 0 ≡ 0 → ⊥) → k ≡ counted (marked shows part) 8 → k ≡ columns (sheetOf ws) part
+    pub columns-shown : (shows : List ℕ) (k : ℕ) → shows ≡ showsOf (sheetOf ws) → (getD marks part 0 ≡ 0 → ⊥) → k ≡ counted (marked shows part) 8
+        → k ≡ columns (sheetOf ws) part
     unfolding markedIn
     columns-shown shows k w z q = go (kept (sheetOf ws) part) refl kept-read
       where
@@ -148,7 +128,8 @@ module _ (ws : Words) (g : GoodSheet ws) where
       → getD rooms part 0 * getD cols part 0 ≡ size (sheetOf ws) part
   unfolding size roomsOf columnsOf roomAt
   size-read rooms cols part e q h =
-      ap₂ (λ (x y : List ℕ). getD x part 0 * getD y part 0) e q ∙ ap₂ _*_ (part-read (roomAt (sheetOf ws)) ws g part h) (part-read (columns (sheetOf ws)) ws g part h)
+      ap₂ (λ (x y : List ℕ). getD x part 0 * getD y part 0) e q
+      ∙ ap₂ _*_ (part-read (roomAt (sheetOf ws)) ws g part h) (part-read (columns (sheetOf ws)) ws g part h)
 
   pub start-read : (starts : List ℕ) (part : ℕ) → starts ≡ startsOf (sheetOf ws) → part ≤ tableCount ws → getD starts part 0 ≡ start (sheetOf ws) part
   unfolding startsOf
@@ -164,4 +145,6 @@ module _ (ws : Words) (g : GoodSheet ws) where
 
     pub store-is : (b : ℕ) → b ≡ size (sheetOf ws) n → getD starts n 0 + b ≡ storeLength (sheetOf ws)
     unfolding storeLength
-    store-is b h = omega (arith, list-start .0, start-next (sheetOf ws) n, ap (λ (k : ℕ). start (sheetOf ws) (k + 1)) (n-is ws ∙ sym q), ap (start (sheetOf ws)) (add-one n))
+    store-is b h =
+        let behind = ap (λ (k : ℕ). start (sheetOf ws) (k + 1)) (n-is ws ∙ sym q) in
+        omega (arith, list-start .0, start-next (sheetOf ws) n, ap (start (sheetOf ws)) (add-one n))

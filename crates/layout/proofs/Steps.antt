@@ -7,7 +7,7 @@ use mathlib.Core.List.{List}
 use native.Mathlib.Omega.{arith}
 use lib.ListN.{getD}
 use borrow.Author.Tests.{eq-eqb, ne-eqb}
-use Rattle.lists.specs.Lists.{Words, at}
+use Rattle.lists.specs.Lists.{Words}
 use Rattle.lists.specs.Totals.{one}
 use Rattle.lists.specs.Loops.{filled}
 use Rattle.lists.proofs.Loops.{filled-end}
@@ -22,7 +22,7 @@ use Rattle.sheet.specs.Counted.{counted}
 use Rattle.sheet.proofs.Words.{n-is}
 use Rattle.derive.specs.Derived.{shownNo}
 use Rattle.layout.specs.Marks.{marked, markedIn, markedAt, listsOf}
-use Rattle.layout.specs.Plans.{keptOf, showsAt, showsOf, columnsOf, roomsOf, startsOf, depOf, needOf, planFor, emptyPlan, checkedOf}
+use Rattle.layout.specs.Plans.{keptOf, showsAt, showsOf, columnsOf, roomsOf, startsOf, planFor, emptyPlan, checkedOf}
 use Rattle.layout.specs.declared.Plan.{Plan}
 use Rattle.layout.specs.declared.Checked.{Checked}
 use Rattle.layout.proofs.Shown.{lists-shown}
@@ -32,7 +32,8 @@ use Rattle.layout.proofs.Chosen.{chosen-at, chosen-past}
 pub tables-end : (f : ℕ → ℕ) (ws : Words) (k : ℕ) (d a : List ℕ) → k ≤ tableCount ws → tableCount ws ≤ k → a ≡ filled f k d → a ≡ filled f (sheetOf ws .n) d
 tables-end f ws k d a h l e = filled-end f k (tableCount ws) d a h l e ∙ ap (λ (n : ℕ). filled f n d) (sym (n-is ws))
 
-pub parts-end : (f : ℕ → ℕ) (ws : Words) (k : ℕ) (d a : List ℕ) → k ≤ tableCount ws + 1 → tableCount ws + 1 ≤ k → a ≡ filled f k d → a ≡ filled f (sheetOf ws .n + 1) d
+pub parts-end : (f : ℕ → ℕ) (ws : Words) (k : ℕ) (d a : List ℕ) → k ≤ tableCount ws + 1 → tableCount ws + 1 ≤ k
+    → a ≡ filled f k d → a ≡ filled f (sheetOf ws .n + 1) d
 parts-end f ws k d a h l e = filled-end f k (tableCount ws + 1) d a h l e ∙ ap (λ (n : ℕ). filled f (n + 1) d) (sym (n-is ws))
 
 pub shows-none : (ws : Words) (i : ℕ) → hasColumn (sheetOf ws) (i / 8) (i % 8) ≡ false → 0 ≡ showsAt (sheetOf ws) i
@@ -63,14 +64,15 @@ module _ (marks : List ℕ) (t : ℕ) where
   marked-past j many e h = sym (chosen-past (marked marks t) 8 j (omega arith))
 
 -- the plan, put together
-pub plan-made : (ws : Words) → Rules ws → (tables root store : ℕ) (kept shows shown columns rooms starts dep need : List ℕ)
-    → tables ≡ tableCount ws → root ≡ Meant.root (sheetOf ws) → store ≡ storeLength (sheetOf ws) → kept ≡ keptOf (sheetOf ws) → shows ≡ showsOf (sheetOf ws) → shown ≡ listsOf shows
-    → columns ≡ columnsOf (sheetOf ws) → rooms ≡ roomsOf (sheetOf ws) → starts ≡ startsOf (sheetOf ws) → dep ≡ depOf (sheetOf ws) → need ≡ needOf (sheetOf ws)
+pub plan-made : (ws : Words) → Rules ws → (tables root store : ℕ) (kept shows shown columns rooms starts : List ℕ)
+    → tables ≡ tableCount ws → root ≡ Meant.root (sheetOf ws) → store ≡ storeLength (sheetOf ws)
+    → kept ≡ keptOf (sheetOf ws) → shows ≡ showsOf (sheetOf ws) → shown ≡ listsOf shows
+    → columns ≡ columnsOf (sheetOf ws) → rooms ≡ roomsOf (sheetOf ws) → starts ≡ startsOf (sheetOf ws)
     → _≡_ {A = Plan}
-    (record { tables = tables; root = root; store = store; kept = kept; shows = shows; shown = shown; columns = columns; rooms = rooms; starts = starts; dep = dep; need = need })
+    (record { tables = tables; root = root; store = store; kept = kept; shows = shows; shown = shown; columns = columns; rooms = rooms; starts = starts })
     (planFor (sheetOf ws))
 unfolding planFor
-plan-made ws r tables root store kept shows shown columns rooms starts dep need t a b c d e f g h i j =
+plan-made ws r tables root store kept shows shown columns rooms starts t a b c d e f g h =
     let l = lists-shown ws r in
     let n = n-is ws in
     cc

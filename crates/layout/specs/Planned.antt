@@ -4,10 +4,10 @@ use Prim.Native.Nat.{ℕ, _+_, _*_, _<_, _≤_}
 use mathlib.Core.Path.{_≡_}
 use mathlib.Core.Bool.{_&&_}
 use lib.ListN.{length, getD}
-use Rattle.lists.specs.Lists.{at, member}
+use Rattle.lists.specs.Lists.{at}
 use Rattle.lists.specs.Totals.{one}
 use Rattle.meaning.specs.Sheet.{Sheet, hasColumn, room}
-use Rattle.meaning.specs.Plan.{root, dep, need, kept, isShown, shown, columns, size, start, storeLength}
+use Rattle.meaning.specs.Plan.{root, kept, isShown, shown, columns, size, start, storeLength}
 use Rattle.layout.specs.declared.Plan.{Plan}
 
 -- the lengths of the arrays
@@ -18,8 +18,6 @@ pub record Lengths (p : Plan) : Type 0 where
   pub columns-length : length (p .columns) ≡ 9
   pub rooms-length : length (p .rooms) ≡ 9
   pub starts-length : length (p .starts) ≡ 9
-  pub dep-length : length (p .dep) ≡ 64
-  pub need-length : length (p .need) ≡ 64
 
 -- p is the plan of the sheet s
 pub record Planned (s : Sheet) (p : Plan) : Type 0 where
@@ -42,5 +40,3 @@ pub record Planned (s : Sheet) (p : Plan) : Type 0 where
   pub starts-at : (part : ℕ) → part ≤ s .n → getD (p .starts) part 0 ≡ start s part
   -- a part ends within the store
   pub parts-in : (part : ℕ) → part ≤ s .n → start s part + size s part ≤ storeLength s
-  pub dep-at : (t u : ℕ) → t < 8 → u < 8 → getD (p .dep) (8 * t + u) 0 ≡ one (member u (dep s t))
-  pub need-at : (t u : ℕ) → t < s .n → u < 8 → getD (p .need) (8 * t + u) 0 ≡ one (member u (need s t))

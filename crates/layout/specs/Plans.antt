@@ -3,13 +3,12 @@
 use Prim.Native.Nat.{ℕ, _+_, _/_, _%_}
 use mathlib.Core.Bool.{_&&_}
 use mathlib.Core.List.{List}
-use lib.Dec.{ltb}
 use lib.ListN.{replicate}
-use Rattle.lists.specs.Lists.{Words, at, member}
+use Rattle.lists.specs.Lists.{Words, at}
 use Rattle.lists.specs.Totals.{one}
 use Rattle.lists.specs.Loops.{filled}
 use Rattle.meaning.specs.Sheet.{Sheet, sheetOf, hasColumn, room}
-use Rattle.meaning.specs.Plan.{root, dep, need, kept, isShown, shown, columns, start, storeLength}
+use Rattle.meaning.specs.Plan.{root, kept, isShown, shown, columns, start, storeLength}
 use Rattle.sheet.specs.Verdicts.{verdictOf}
 use Rattle.sheet.specs.declared.Verdict.{Verdict}
 use Rattle.sheet.specs.declared.Verdict.the-variants.{Good, Refused}
@@ -22,7 +21,7 @@ keptAt s t = one (kept s t)
 unfoldable pub keptOf : Sheet → List ℕ
 keptOf s = filled (keptAt s) (s .n) (replicate 8 0)
 
--- place i speaks of table i / 8 and of its column, or of the table, i % 8
+-- place i speaks of table i / 8 and of its column i % 8
 unfoldable pub showsAt : Sheet → ℕ → ℕ
 showsAt s i = one (hasColumn s (i / 8) (i % 8) && isShown s (i / 8) (i % 8))
 
@@ -34,18 +33,6 @@ shownAt s i = at (shown s (i / 8)) (i % 8)
 
 unfoldable pub shownOf : Sheet → List ℕ
 shownOf s = filled (shownAt s) 64 (replicate 64 0)
-
-unfoldable pub depAt : Sheet → ℕ → ℕ
-depAt s i = one (member (i % 8) (dep s (i / 8)))
-
-unfoldable pub depOf : Sheet → List ℕ
-depOf s = filled (depAt s) 64 (replicate 64 0)
-
-unfoldable pub needAt : Sheet → ℕ → ℕ
-needAt s i = one (ltb (i / 8) (s .n) && member (i % 8) (need s (i / 8)))
-
-unfoldable pub needOf : Sheet → List ℕ
-needOf s = filled (needAt s) 64 (replicate 64 0)
 
 unfoldable pub columnsOf : Sheet → List ℕ
 columnsOf s = filled (columns s) (s .n + 1) (replicate 9 0)
@@ -71,8 +58,6 @@ planFor s =
       columns = columnsOf s;
       rooms = roomsOf s;
       starts = startsOf s;
-      dep = depOf s;
-      need = needOf s;
     }
 
 abbrev pub emptyPlan : Plan
@@ -87,8 +72,6 @@ emptyPlan =
       columns = replicate 9 0;
       rooms = replicate 9 0;
       starts = replicate 9 0;
-      dep = replicate 64 0;
-      need = replicate 64 0;
     }
 
 -- the plan beside a verdict

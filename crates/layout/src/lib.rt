@@ -8,10 +8,10 @@ ghost use Rattle.meaning.specs.Plan.{columns, size, storeLength};
 ghost use Rattle.sheet.specs.Rules.{Counts};
 ghost use Rattle.sheet.specs.Counted.{counted};
 ghost use Rattle.sheet.specs.Tree.{GoodSheet};
-ghost use Rattle.layout.specs.Plans.{keptOf, showsAt, showsOf, shownOf, columnsOf, roomsOf, startsOf, depOf, needAt, needOf, planFor, emptyPlan, checkedOf};
+ghost use Rattle.layout.specs.Plans.{keptOf, showsAt, showsOf, shownOf, columnsOf, roomsOf, startsOf, planFor, emptyPlan, checkedOf};
 ghost use Rattle.layout.specs.Marks.{marked, markedAt, listsOf};
 
-// Part t is table t's, part n (tables) the list's. Column sets and table sets have eight places for each table, from 8t on.
+// Part t is table t's, part n (tables) the list's. Column sets have eight places for each table, from 8t on.
 pub struct Plan {
     pub tables: usize,
     pub root: usize,
@@ -27,9 +27,6 @@ pub struct Plan {
     pub columns: [usize; 9],
     pub rooms: [usize; 9],
     pub starts: [usize; 9],
-    // 1 at 8t + u if u is in Dep(t), in Need(t)
-    pub dep: [u64; 64],
-    pub need: [u64; 64],
 }
 
 pub struct Checked {
@@ -37,7 +34,8 @@ pub struct Checked {
     pub plan: Plan,
 }
 
-fn mark_of(b: bool) -> u64
+// A test as a mark.
+pub fn mark_of(b: bool) -> u64
     ensures { λ r. ⌜ r ≡ one b ⌝ }
 {
     if b { 1 } else { 0 }
@@ -132,7 +130,8 @@ fn marks_in(marks: [u64; 64], t: usize) -> usize
 
 // How many columns the rows of a part have: none for an unkept table, the listed columns for the list.
 fn columns_in(sheet: &[u64], kept: [u64; 8], shows: [u64; 64], part: usize) -> usize
-    requires { ⌜ GoodSheet (now sheet) × ((kept ≡ keptOf (sheetOf (now sheet))) × ((shows ≡ showsOf (sheetOf (now sheet))) × (part ≤ tableCount (now sheet)))) ⌝ }
+    requires { ⌜ GoodSheet (now sheet) × ((kept ≡ keptOf (sheetOf (now sheet)))
+        × ((shows ≡ showsOf (sheetOf (now sheet))) × (part ≤ tableCount (now sheet)))) ⌝ }
     ensures { λ r. ⌜ r ≡ columns (sheetOf (now (sheet .entry))) part ⌝ }
 {
     if sheet::tables(sheet) <= part {
@@ -174,7 +173,8 @@ fn rooms_of(sheet: &[u64]) -> [usize; 9]
 
 // How many words a part has room for.
 fn size_of(sheet: &[u64], rooms: [usize; 9], columns: [usize; 9], part: usize) -> usize
-    requires { ⌜ GoodSheet (now sheet) × ((rooms ≡ roomsOf (sheetOf (now sheet))) × ((columns ≡ columnsOf (sheetOf (now sheet))) × (part ≤ tableCount (now sheet)))) ⌝ }
+    requires { ⌜ GoodSheet (now sheet) × ((rooms ≡ roomsOf (sheetOf (now sheet)))
+        × ((columns ≡ columnsOf (sheetOf (now sheet))) × (part ≤ tableCount (now sheet)))) ⌝ }
     ensures { λ r. ⌜ (r ≡ size (sheetOf (now (sheet .entry))) part) × (r ≤ 65536) ⌝ }
 {
     rooms[part] * columns[part]
@@ -199,49 +199,13 @@ fn starts_of(sheet: &[u64], rooms: [usize; 9], columns: [usize; 9]) -> [usize; 9
 
 // The store's length: where the list begins, and the list's room.
 fn store_of(sheet: &[u64], rooms: [usize; 9], columns: [usize; 9], starts: [usize; 9]) -> usize
-    requires { ⌜ GoodSheet (now sheet) × ((rooms ≡ roomsOf (sheetOf (now sheet))) × ((columns ≡ columnsOf (sheetOf (now sheet))) × (starts ≡ startsOf (sheetOf (now sheet))))) ⌝ }
+    requires { ⌜ GoodSheet (now sheet) × ((rooms ≡ roomsOf (sheetOf (now sheet)))
+        × ((columns ≡ columnsOf (sheetOf (now sheet))) × (starts ≡ startsOf (sheetOf (now sheet))))) ⌝ }
     ensures { λ r. ⌜ r ≡ storeLength (sheetOf (now (sheet .entry))) ⌝ }
 {
     let n = sheet::tables(sheet);
     let last = size_of(sheet, rooms, columns, n);
     starts[n] + last
-}
-
-fn dep_marks(sheet: &[u64]) -> [u64; 64]
-    requires { ⌜ GoodSheet (now sheet) ⌝ }
-    ensures { λ m. ⌜ m ≡ depOf (sheetOf (now (sheet .entry))) ⌝ }
-{
-    let mut m = [0u64; 64];
-    let mut i = 0;
-    while i < 64 {
-        m[i] = mark_of(derive::depends(sheet, i / 8, i % 8, 1));
-        i += 1;
-    }
-    m
-}
-
-fn need_at(sheet: &[u64], i: usize) -> u64
-    requires { ⌜ GoodSheet (now sheet) ⌝ }
-    ensures { λ r. ⌜ r ≡ needAt (sheetOf (now (sheet .entry))) i ⌝ }
-{
-    let n = sheet::tables(sheet);
-    if n <= i / 8 {
-        return 0;
-    }
-    mark_of(derive::needs(sheet, i / 8, i % 8, n))
-}
-
-fn need_marks(sheet: &[u64]) -> [u64; 64]
-    requires { ⌜ GoodSheet (now sheet) ⌝ }
-    ensures { λ m. ⌜ m ≡ needOf (sheetOf (now (sheet .entry))) ⌝ }
-{
-    let mut m = [0u64; 64];
-    let mut i = 0;
-    while i < 64 {
-        m[i] = need_at(sheet, i);
-        i += 1;
-    }
-    m
 }
 
 // The plan of a good sheet.
@@ -258,8 +222,6 @@ fn plan_for(sheet: &[u64]) -> Plan
     let rooms = rooms_of(sheet);
     let starts = starts_of(sheet, rooms, columns);
     let store = store_of(sheet, rooms, columns, starts);
-    let dep = dep_marks(sheet);
-    let need = need_marks(sheet);
     Plan {
         tables: tables,
         root: root,
@@ -270,8 +232,6 @@ fn plan_for(sheet: &[u64]) -> Plan
         columns: columns,
         rooms: rooms,
         starts: starts,
-        dep: dep,
-        need: need,
     }
 }
 
@@ -288,8 +248,6 @@ fn empty_plan() -> Plan
         columns: [0usize; 9],
         rooms: [0usize; 9],
         starts: [0usize; 9],
-        dep: [0u64; 64],
-        need: [0u64; 64],
     }
 }
 

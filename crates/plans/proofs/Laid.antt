@@ -8,7 +8,7 @@ use mathlib.Core.Logic.{inl, inr}
 use native.Mathlib.Nat.{zero-add}
 use native.Mathlib.Omega.{arith}
 use lib.Dec.{eqb, ltb}
-use lib.ListN.{length, getD, set, replicate, length-map, getD-replicate, List·getD-eq-default}
+use lib.ListN.{length, getD, replicate, length-map, getD-replicate, List·getD-eq-default}
 use lib.Seq.{getD-set-other}
 use borrow.Author.Tests.{lt-ltb, le-ltb, ltb-true, ltb-false, eqb-false, ne-eqb}
 use Rattle.lists.specs.Lists.{Words, member, upTo}
@@ -23,17 +23,19 @@ use Rattle.laws.proofs.Sheets as Sheets
 use Rattle.laws.proofs.Trees.{child-of}
 use Rattle.derive.proofs.Paths.{dep-edge}
 use Rattle.sheet.proofs.Numbers.{member-chosen}
-use Rattle.layout.specs.Plans.{keptOf, keptAt, showsAt, showsOf, depAt, depOf, needAt, needOf, startsOf, roomsOf, planFor, checkedOf}
+use Rattle.layout.specs.Plans.{keptOf, keptAt, showsAt, showsOf, startsOf, roomsOf, planFor, checkedOf}
 use Rattle.layout.specs.Planned.{Planned}
 use Rattle.layout.proofs.Chosen.{filled-same}
 use Rattle.layout.proofs.Shown.{has-column}
 use Rattle.layout.proofs.Planning.{plan-facts, good-plan, planned}
+use Rattle.sheet.specs.Tree.{GoodSheet}
 use Rattle.sheet.proofs.Good.{good-sheet, good-rules, good-zero, refused-is}
 use Rattle.sheet.specs.Verdicts.{verdictOf}
 use Rattle.sheet.specs.declared.Verdict.the-variants.{Good, Refused}
 use Rattle.layout.specs.declared.Checked.{Checked}
 use Rattle.layout.specs.declared.Plan.{Plan}
-use Rattle.plans.specs.Answers.{noTable, tableNo, setsOf, numbersOf, laid, keptColumn, keptColumns, firstParts, answerFor, refusedAnswer}
+use Rattle.plans.specs.Answers.{noTable, tableNo, setsOf, numbersOf, laid, depAt, depOf, needAt, needOf}
+use Rattle.plans.specs.Answers.{keptColumn, keptColumns, firstParts, answerFor, refusedAnswer}
 use Rattle.plans.specs.declared.PlanAnswer.{PlanAnswer}
 
 pub filled-past : (f : ℕ → ℕ) (n i z : ℕ) (d : List ℕ) → n ≤ i → getD (filled f n d) i z ≡ getD d i z
@@ -42,11 +44,13 @@ filled-past f zero i z d h = refl
 filled-past f (suc n) i z d h = getD-set-other (filled f n d) n i (f n) z (λ q. omega arith) ∙ filled-past f n i z d (omega arith)
 
 -- a set whose members are tables is the same in order
-kept-in : (x : ℕ) (n : ℕ) (xs : List ℕ) → (Mem x xs → x < n) → member x xs ≡ (ltb x n && member x xs)
-kept-in x n xs h =
-    same-test (member x xs) (ltb x n && member x xs)
-    (λ m. and-both (ltb x n) (member x xs) (isT (lt-ltb x n (h (member→Mem x xs m)))) m)
-    (λ m. and-snd (ltb x n) (member x xs) m)
+same-in-order : (s : Sheet) (x : ℕ) (xs : List ℕ) → (Mem x xs → x < s .n) → member x xs ≡ member x (inOrder s xs)
+unfolding inOrder
+same-in-order s x xs h =
+    same-test (member x xs) (ltb x (s .n) && member x xs)
+    (λ m. and-both (ltb x (s .n)) (member x xs) (isT (lt-ltb x (s .n) (h (member→Mem x xs m)))) m)
+    (λ m. and-snd (ltb x (s .n)) (member x xs) m)
+    ∙ sym (member-chosen (λ t. member t xs) (s .n) x)
 
 module _ (s : Sheet) (g : Sheets.Good s) where
   dep-in : (t u : ℕ) → Mem u (dep s t) → (t < s .n) × (u < s .n)
@@ -80,7 +84,8 @@ module _ (s : Sheet) where
   table-out t h = List·getD-eq-default (goodPlan s .tables) noTable (omega (arith, tables-many))
 
 -- an array filled alike where its place's table is there, and where it is not
-by-table : (n : ℕ) (f g : ℕ → ℕ) (k : ℕ) (d : List ℕ) → ((i : ℕ) → i < k → i / 8 < n → f i ≡ g i) → ((i : ℕ) → i < k → n ≤ i / 8 → f i ≡ g i) → filled f k d ≡ filled g k d
+by-table : (n : ℕ) (f g : ℕ → ℕ) (k : ℕ) (d : List ℕ) → ((i : ℕ) → i < k → i / 8 < n → f i ≡ g i)
+    → ((i : ℕ) → i < k → n ≤ i / 8 → f i ≡ g i) → filled f k d ≡ filled g k d
 by-table n f g k d there gone = filled-same f g k d (λ i l. go i l (ltb (i / 8) n) refl)
   where
     go : (i : ℕ) → i < k → (b : Bool) → ltb (i / 8) n ≡ b → f i ≡ g i
@@ -103,27 +108,28 @@ module _ (s : Sheet) (facts : Planned s (planFor s)) (good : Sheets.Good s) wher
       (member-chosen (isShown s (i / 8)) (width s (i / 8)) (i % 8) ∙ ap (λ (b : Bool). b && isShown s (i / 8) (i % 8)) (sym (has (i / 8) (i % 8))))
       ∙ ap (λ (p : TablePlan). one (member (i % 8) (p .columns))) (sym (table-in s (i / 8) h)))
       (λ i l h.
-      ap (λ (a : ℕ). cond (eqb a 1) (getD (filled (showsAt s) 64 (replicate 64 0)) i 0) 0) (filled-past (keptAt s) (s .n) (i / 8) 0 (replicate 8 0) h ∙ getD-replicate 8 (i / 8) 0 0 (omega arith))
+      ap (λ (a : ℕ). cond (eqb a 1) (getD (filled (showsAt s) 64 (replicate 64 0)) i 0) 0)
+      (filled-past (keptAt s) (s .n) (i / 8) 0 (replicate 8 0) h ∙ getD-replicate 8 (i / 8) 0 0 (omega arith))
       ∙ ap (λ (p : TablePlan). one (member (i % 8) (p .columns))) (sym (table-out s (i / 8) h)))
 
   dep-laid : depOf s ≡ setsOf (λ t. tableNo (goodPlan s) t .dep)
-  unfolding depOf depAt setsOf tablePlan inOrder
+  unfolding depOf depAt setsOf tablePlan
   dep-laid =
       by-table (s .n) _ _ 64 (replicate 64 0)
       (λ i l h.
-      ap one (kept-in (i % 8) (s .n) (dep s (i / 8)) (λ m. dep-in s good (i / 8) (i % 8) m .1) ∙ sym (member-chosen (λ t. member t (dep s (i / 8))) (s .n) (i % 8)))
+      ap one (same-in-order s (i % 8) (dep s (i / 8)) (λ m. dep-in s good (i / 8) (i % 8) m .1))
       ∙ ap (λ (p : TablePlan). one (member (i % 8) (p .dep))) (sym (table-in s (i / 8) h)))
       (λ i l h.
       ap one (F→≡ (member (i % 8) (dep s (i / 8))) (λ m. let b = dep-in s good (i / 8) (i % 8) (member→Mem (i % 8) (dep s (i / 8)) m) in omega arith))
       ∙ ap (λ (p : TablePlan). one (member (i % 8) (p .dep))) (sym (table-out s (i / 8) h)))
 
   need-laid : needOf s ≡ setsOf (λ t. tableNo (goodPlan s) t .need)
-  unfolding needOf needAt setsOf tablePlan inOrder need
+  unfolding needOf needAt setsOf tablePlan need
   need-laid =
       by-table (s .n) _ _ 64 (replicate 64 0)
       (λ i l h.
       ap (λ (b : Bool). one (b && member (i % 8) (need s (i / 8)))) (lt-ltb (i / 8) (s .n) h)
-      ∙ ap one (kept-in (i % 8) (s .n) (need s (i / 8)) (λ m. need-in s good (s .n) (i / 8) (i % 8) h m) ∙ sym (member-chosen (λ t. member t (need s (i / 8))) (s .n) (i % 8)))
+      ∙ ap one (same-in-order s (i % 8) (need s (i / 8)) (λ m. need-in s good (s .n) (i / 8) (i % 8) h m))
       ∙ ap (λ (p : TablePlan). one (member (i % 8) (p .need))) (sym (table-in s (i / 8) h)))
       (λ i l h.
       ap (λ (b : Bool). one (b && member (i % 8) (need s (i / 8)))) (le-ltb (i / 8) (s .n) h)
@@ -149,7 +155,7 @@ module _ (s : Sheet) (facts : Planned s (planFor s)) (good : Sheets.Good s) wher
   unfolding firstParts planFor tablePlan
   rooms-laid = numbers-laid (λ t. getD (roomsOf s) t 0) (λ p. p .room) (λ t l. facts .rooms-at t (omega arith))
 
-  pub plan-laid : ((t c : ℕ) → hasColumn s t c ≡ ltb c (width s t)) → answerFor (planFor s) ≡ laid (goodPlan s)
+  pub plan-laid : ((t c : ℕ) → hasColumn s t c ≡ ltb c (width s t)) → answerFor (planFor s) (depOf s) (needOf s) ≡ laid (goodPlan s)
   unfolding answerFor planFor laid goodPlan
   plan-laid has =
       let a = columns-laid has in
@@ -162,11 +168,11 @@ module _ (s : Sheet) (facts : Planned s (planFor s)) (good : Sheets.Good s) wher
       cc
 
 -- the two outcomes of the plan call
-pub answer-good : (ws : Words) → sheetRefusal ws ≡ 0 → answerFor (checkedOf ws .plan) ≡ laid (plan ws)
+pub answer-good : (ws : Words) → sheetRefusal ws ≡ 0 → answerFor (checkedOf ws .plan) (depOf (sheetOf ws)) (needOf (sheetOf ws)) ≡ laid (plan ws)
 unfolding plan
 answer-good ws h =
-    ap answerFor (good-plan ws h) ∙ plan-laid (sheetOf ws) (plan-facts ws (good-sheet ws h)) (Sheets.good-sheet ws h) (has-column ws (good-rules ws h))
-    ∙ sym (rw h)
+    ap (λ (p : Plan). answerFor p (depOf (sheetOf ws)) (needOf (sheetOf ws))) (good-plan ws h)
+    ∙ plan-laid (sheetOf ws) (plan-facts ws (good-sheet ws h)) (Sheets.good-sheet ws h) (has-column ws (good-rules ws h)) ∙ sym (rw h)
 
 pub answer-refused : (ws : Words) (k : ℕ) → sheetRefusal ws ≡ k → (k ≡ 0 → ⊥) → refusedAnswer k ≡ laid (plan ws)
 unfolding plan laid numbersOf setsOf filled
@@ -185,8 +191,12 @@ module _ (ws : Words) (r : Checked) (e : r ≡ checkedOf ws) where
     not-refused : sheetRefusal ws ≡ 0
     not-refused = good-zero ws (sym verdict-is ∙ v)
 
-    pub plan-good : (a : PlanAnswer) → a ≡ answerFor (r .plan) → a ≡ laid (plan ws)
-    plan-good a q = q ∙ ap (λ (c : Checked). answerFor (c .plan)) e ∙ answer-good ws not-refused
+    pub sheet-good : GoodSheet ws
+    sheet-good = good-sheet ws not-refused
+
+    pub plan-good : (a : PlanAnswer) (deps needs : List ℕ) → deps ≡ depOf (sheetOf ws) → needs ≡ needOf (sheetOf ws)
+        → a ≡ answerFor (r .plan) deps needs → a ≡ laid (plan ws)
+    plan-good a deps needs d n q = rw (e, d, n) at q ∙ answer-good ws not-refused
 
     pub tables-few : r .plan .tables ≤ 8
     tables-few = subst (λ (p : Plan). p .tables ≤ 8) (sym (ap (λ (c : Checked). c .plan) e)) (planned ws not-refused .tables-few)

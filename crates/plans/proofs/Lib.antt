@@ -1,3 +1,4 @@
 pub mod Laid
-pub mod Sets
+pub mod Marks
 pub mod Outcomes
+pub mod Sets

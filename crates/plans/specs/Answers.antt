@@ -1,15 +1,16 @@
 -- The plan call's answer: document 01's plan laid out as arrays.
 -- Assumes nothing.
 use Prim.Native.Nat.{ℕ, _/_, _%_}
-use mathlib.Core.Bool.{cond}
+use mathlib.Core.Bool.{cond, _&&_}
 use mathlib.Core.List.{List, []}
-use lib.Dec.{eqb}
+use lib.Dec.{eqb, ltb}
 use lib.ListN.{length, getD, replicate}
 use Rattle.lists.specs.Lists.{member}
 use Rattle.lists.specs.Totals.{one}
 use Rattle.lists.specs.Loops.{filled}
-use Rattle.meaning.specs.Plan.{TablePlan}
+use Rattle.meaning.specs.Plan.{TablePlan, dep, need}
 use Rattle.meaning.specs.Plan as Meant
+use Rattle.meaning.specs.Sheet.{Sheet}
 use Rattle.layout.specs.declared.Plan.{Plan}
 use Rattle.plans.specs.declared.PlanAnswer.{PlanAnswer}
 
@@ -43,7 +44,20 @@ laid p =
       rooms = numbersOf (λ t. tableNo p t .room) (length (p .tables));
     }
 
--- The same from the arrays that the check hands out
+-- Dep and Need as marks: place i speaks of table i / 8 and of the table i % 8
+unfoldable pub depAt : Sheet → ℕ → ℕ
+depAt s i = one (member (i % 8) (dep s (i / 8)))
+
+unfoldable pub depOf : Sheet → List ℕ
+depOf s = filled (depAt s) 64 (replicate 64 0)
+
+unfoldable pub needAt : Sheet → ℕ → ℕ
+needAt s i = one (ltb (i / 8) (s .n) && member (i % 8) (need s (i / 8)))
+
+unfoldable pub needOf : Sheet → List ℕ
+needOf s = filled (needAt s) 64 (replicate 64 0)
+
+-- The same from the arrays that the check hands out, and these marks
 unfoldable pub keptColumn : List ℕ → List ℕ → ℕ → ℕ
 keptColumn kept shows i = cond (eqb (getD kept (i / 8) 0) 1) (getD shows i 0) 0
 
@@ -53,8 +67,8 @@ keptColumns kept shows = filled (keptColumn kept shows) 64 (replicate 64 0)
 unfoldable pub firstParts : List ℕ → ℕ → List ℕ
 firstParts parts n = filled (λ t. getD parts t 0) n (replicate 8 0)
 
-unfoldable pub answerFor : Plan → PlanAnswer
-answerFor p =
+unfoldable pub answerFor : Plan → List ℕ → List ℕ → PlanAnswer
+answerFor p dep need =
     record {
       number = 0;
       tables = p .tables;
@@ -62,8 +76,8 @@ answerFor p =
       store = p .store;
       kept = p .kept;
       columns = keptColumns (p .kept) (p .shows);
-      dep = p .dep;
-      need = p .need;
+      dep = dep;
+      need = need;
       starts = firstParts (p .starts) (p .tables);
       rooms = firstParts (p .rooms) (p .tables);
     }

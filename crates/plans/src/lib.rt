@@ -1,10 +1,13 @@
 // The plan call: any run of words to the whole plan, or to the number of the refusal.
 use layout::Plan;
+use layout::mark_of;
 use sheet::Verdict;
 ghost use mathlib.Core.Path.{_≡_};
 ghost use Prim.Native.Nat.{ℕ, _≤_, _<_};
 ghost use Rattle.meaning.specs.Plan.{plan};
-ghost use Rattle.plans.specs.Answers.{keptColumn, keptColumns, firstParts, answerFor, refusedAnswer, laid};
+ghost use Rattle.meaning.specs.Sheet.{sheetOf};
+ghost use Rattle.sheet.specs.Tree.{GoodSheet};
+ghost use Rattle.plans.specs.Answers.{depOf, needAt, needOf, keptColumn, keptColumns, firstParts, answerFor, refusedAnswer, laid};
 
 // What is printed of the plan, with each table's place and room. Every other field is zero where the sheet is refused.
 pub struct PlanAnswer {
@@ -22,6 +25,45 @@ pub struct PlanAnswer {
     // where table t's part of the store begins, and for how many rows it has room
     pub starts: [usize; 8],
     pub rooms: [usize; 8],
+}
+
+// 1 at 8t + u if u is in Dep(t).
+fn dep_marks(sheet: &[u64]) -> [u64; 64]
+    requires { ⌜ GoodSheet (now sheet) ⌝ }
+    ensures { λ m. ⌜ m ≡ depOf (sheetOf (now (sheet .entry))) ⌝ }
+{
+    let mut m = [0u64; 64];
+    let mut i = 0;
+    while i < 64 {
+        m[i] = mark_of(derive::depends(sheet, i / 8, i % 8, 1));
+        i += 1;
+    }
+    m
+}
+
+// 1 if there is a table i / 8, and i % 8 is in its Need.
+fn need_at(sheet: &[u64], i: usize) -> u64
+    requires { ⌜ GoodSheet (now sheet) ⌝ }
+    ensures { λ r. ⌜ r ≡ needAt (sheetOf (now (sheet .entry))) i ⌝ }
+{
+    let n = sheet::tables(sheet);
+    if n <= i / 8 {
+        return 0;
+    }
+    mark_of(derive::needs(sheet, i / 8, i % 8, n))
+}
+
+fn need_marks(sheet: &[u64]) -> [u64; 64]
+    requires { ⌜ GoodSheet (now sheet) ⌝ }
+    ensures { λ m. ⌜ m ≡ needOf (sheetOf (now (sheet .entry))) ⌝ }
+{
+    let mut m = [0u64; 64];
+    let mut i = 0;
+    while i < 64 {
+        m[i] = need_at(sheet, i);
+        i += 1;
+    }
+    m
 }
 
 // The mark of column i % 8 of table i / 8: none for an unkept table.
@@ -61,9 +103,10 @@ fn first_parts(parts: [usize; 9], n: usize) -> [usize; 8]
     r
 }
 
-fn answer_for(p: Plan) -> PlanAnswer
+// The answer from the plan that every call has, and the marks of Dep and Need, which this call alone shows.
+fn answer_for(p: Plan, dep: [u64; 64], need: [u64; 64]) -> PlanAnswer
     requires { ⌜ p .tables ≤ 8 ⌝ }
-    ensures { λ a. ⌜ a ≡ answerFor p ⌝ }
+    ensures { λ a. ⌜ a ≡ answerFor p dep need ⌝ }
 {
     let n = p.tables;
     let kept = p.kept;
@@ -73,8 +116,6 @@ fn answer_for(p: Plan) -> PlanAnswer
     let columns = kept_columns(kept, shows);
     let starts = first_parts(all_starts, n);
     let rooms = first_parts(all_rooms, n);
-    let dep = p.dep;
-    let need = p.need;
     PlanAnswer {
         number: 0,
         tables: n,
@@ -116,5 +157,7 @@ pub fn plan_of(sheet: &[u64]) -> PlanAnswer
     let Verdict::Good = v else {
         return refused_answer(sheet::number_of(v));
     };
-    answer_for(p)
+    let dep = dep_marks(sheet);
+    let need = need_marks(sheet);
+    answer_for(p, dep, need)
 }

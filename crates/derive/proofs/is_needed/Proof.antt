@@ -30,8 +30,9 @@ needs-requires c κs = search needs
 
 returns : tie.Need-returns Inv-loop μ-loop
 returns c =
-    let at-tables = c .before .before .before .before in
-    sym (some-hit _ _ _ (omega arith) (needed-is _ _ _ (at-tables .tables .ensures) _ (c .before .needs .ensures) ∙ c .if1 .taken))
+    let at-loop = c .before .before .before in
+    let at-tables = at-loop .before in
+    sym (some-hit _ (at-loop .loop .u) _ (omega arith) (needed-is _ _ _ (at-tables .tables .ensures) _ (c .before .needs .ensures) ∙ c .if1 .taken))
 
 add-u : tie.Need-add-u Inv-loop μ-loop
 add-u c = search needs

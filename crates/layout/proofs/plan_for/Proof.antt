@@ -32,17 +32,9 @@ starts-of-requires c κs = search needs
 store-of-requires : tie.Need-store-of-requires
 store-of-requires c κs = search needs
 
-dep-marks-requires : tie.Need-dep-marks-requires
-dep-marks-requires c κs = search needs
-
-need-marks-requires : tie.Need-need-marks-requires
-need-marks-requires c κs = search needs
-
 returns : tie.Need-returns
 returns c =
-    let at-store-of = c .before .before in
-    let at-starts-of = at-store-of .before in
-    let at-rooms-of = at-starts-of .before in
+    let at-rooms-of = c .before .before in
     let at-columns-of = at-rooms-of .before in
     let at-marked-lists = at-columns-of .before in
     let at-shows-marks = at-marked-lists .before in
@@ -50,10 +42,9 @@ returns c =
     let at-root-of = at-kept-marks .before in
     let at-tables = at-root-of .before in
     let at-start = at-tables .before .before in
-    plan-made _ (at-start .pre .joined .rules) _ _ _ _ _ _ _ _ _ _ _ (at-tables .tables .ensures) (at-root-of .root-of .ensures)
-    (at-store-of .store-of .ensures) (at-kept-marks .kept-marks .ensures) (at-shows-marks .shows-marks .ensures) (at-marked-lists .marked-lists .ensures)
-    (at-columns-of .columns-of .ensures) (at-rooms-of .rooms-of .ensures) (at-starts-of .starts-of .ensures) (c .before .dep-marks .ensures)
-    (c .need-marks .ensures)
+    plan-made _ (at-start .pre .joined .rules) _ _ _ _ _ _ _ _ _ (at-tables .tables .ensures) (at-root-of .root-of .ensures) (c .store-of .ensures)
+    (at-kept-marks .kept-marks .ensures) (at-shows-marks .shows-marks .ensures) (at-marked-lists .marked-lists .ensures) (at-columns-of .columns-of .ensures)
+    (at-rooms-of .rooms-of .ensures) (c .before .starts-of .ensures)
 
 pub plan-for-spec : {M : Type 1} → statement M
 plan-for-spec =
@@ -68,6 +59,4 @@ plan-for-spec =
     rooms-of-requires
     starts-of-requires
     store-of-requires
-    dep-marks-requires
-    need-marks-requires
     returns)

@@ -16,7 +16,8 @@ use Rattle.layout.proofs.starts_of.Statement.{statement}
 use Rattle.layout.proofs.starts_of.Tie as tie
 
 abbrev Inv-loop : tie.InvT-loop
-Inv-loop sheet rooms columns m r₀ at₀ part₀ r at part = (part ≤ m) × ((r ≡ filled (start (sheetOf sheet)) part (replicate 9 0)) × (at ≡ start (sheetOf sheet) part))
+Inv-loop sheet rooms columns m r₀ at₀ part₀ r at part =
+    (part ≤ m) × ((r ≡ filled (start (sheetOf sheet)) part (replicate 9 0)) × (at ≡ start (sheetOf sheet) part))
 
 abbrev μ-loop : tie.MeasureT-loop
 μ-loop sheet rooms columns m r₀ at₀ part₀ r at part = m - part

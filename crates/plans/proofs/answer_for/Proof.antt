@@ -16,7 +16,7 @@ first-parts-requires-2 c κs = search needs
 
 returns : tie.Need-returns
 unfolding answerFor
-returns c = rw (c .before .before .before .before .kept-columns .ensures, c .before .before .before .first-parts .ensures, c .before .before .first-parts2 .ensures)
+returns c = rw (c .before .before .kept-columns .ensures, c .before .first-parts .ensures, c .first-parts2 .ensures)
 
 pub answer-for-spec : {M : Type 1} → statement M
 answer-for-spec =

@@ -3,7 +3,7 @@
 use mathlib.Core.Path.{ap, _∙_}
 use Rattle.sheet.specs.Verdicts.{numberOf}
 use Rattle.plans.specs.Answers.{refusedAnswer}
-use Rattle.plans.proofs.Laid.{plan-good, plan-refused, tables-few}
+use Rattle.plans.proofs.Laid.{sheet-good, plan-good, plan-refused, tables-few}
 use borrow.Author.Needs.{needs}
 use Rattle.plans.proofs.plan_of.Statement.{statement}
 use Rattle.plans.proofs.plan_of.Tie as tie
@@ -27,17 +27,31 @@ returns : tie.Need-returns
 returns c =
     let at-number = c .before in
     let at-refused = at-number .before in
+    let at-check = at-refused .before .before .before in
     let told = at-refused .enum-told2 .given .1 in
-    plan-refused _ _ (at-refused .before .before .before .check .ensures) _ _ told
-    (c .refused-answer .ensures ∙ ap refusedAnswer (at-number .number-of .ensures ∙ ap numberOf told))
+    plan-refused _ _ (at-check .check .ensures) _ _ told (c .refused-answer .ensures ∙ ap refusedAnswer (at-number .number-of .ensures ∙ ap numberOf told))
+
+dep-marks-requires : tie.Need-dep-marks-requires
+dep-marks-requires c κs = sheet-good _ _ (c .before .before .before .check .ensures) (c .enum-told .given .1)
+
+need-marks-requires : tie.Need-need-marks-requires
+need-marks-requires c κs =
+    let at-check = c .before .before .before .before in
+    sheet-good _ _ (at-check .check .ensures) (c .before .enum-told .given .1)
 
 answer-for-requires : tie.Need-answer-for-requires
-answer-for-requires c κs = tables-few _ _ (c .before .before .before .check .ensures) (c .enum-told .given .1)
+answer-for-requires c κs =
+    let at-enum-told = c .before .before in
+    let at-check = at-enum-told .before .before .before in
+    tables-few _ _ (at-check .check .ensures) (at-enum-told .enum-told .given .1)
 
 returns-2 : tie.Need-returns-2
 returns-2 c =
-    let at-good = c .before in
-    plan-good _ _ (at-good .before .before .before .check .ensures) (at-good .enum-told .given .1) _ (c .answer-for .ensures)
+    let at-dep-marks = c .before .before in
+    let at-enum-told = at-dep-marks .before in
+    let at-check = at-enum-told .before .before .before in
+    plan-good _ _ (at-check .check .ensures) (at-enum-told .enum-told .given .1) _ _ _ (at-dep-marks .dep-marks .ensures) (c .before .need-marks .ensures)
+    (c .answer-for .ensures)
 
 pub plan-of-spec : {M : Type 1} → statement M
 plan-of-spec =
@@ -49,5 +63,7 @@ plan-of-spec =
     number-of-requires
     refused-answer-requires
     returns
+    dep-marks-requires
+    need-marks-requires
     answer-for-requires
     returns-2)
