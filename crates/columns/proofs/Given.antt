@@ -18,7 +18,7 @@ use Rattle.rows.proofs.Marks.{flat-append, cut-snoc}
 use Rattle.meaning.specs.Sheet.{listedCount}
 use Rattle.walks.specs.Marks.{altered, isMarked}
 use Rattle.walks.proofs.Marks.{length-altered}
-use Rattle.columns.specs.Gives.{gives, given}
+use Rattle.columns.specs.Gives.{gives, given, rowGiven}
 use Rattle.columns.proofs.Words.{gives-length}
 
 flat-one : (r : Row) → flat (r ∷ []) ≡ r
@@ -32,12 +32,16 @@ unfolding altered
 altered-last mark f [] r = refl
 altered-last mark f (q ∷ rows) r = ap (λ (l : Rows). cond (mark 0) (f q) q ∷ l) (altered-last (λ i. mark (suc i)) f rows r)
 
-pub wide-altered : (w : ℕ) (mark : ℕ → Bool) (f : Row → Row) (rows : Rows) → ((r : Row) → length r ≡ w → length (f r) ≡ w) → Wide w rows → Wide w (altered mark f rows)
+pub wide-altered : (w : ℕ) (mark : ℕ → Bool) (f : Row → Row) (rows : Rows) → ((r : Row) → length r ≡ w → length (f r) ≡ w) → Wide w rows
+    → Wide w (altered mark f rows)
 unfolding altered
 wide-altered w mark f [] h k = tt
 wide-altered w mark f (r ∷ rows) h k =
-    wide-cons w (cond (mark 0) (f r) r) (altered (λ i. mark (suc i)) f rows) (go (mark 0) (wide-first w r rows k)) (wide-altered w (λ i. mark (suc i)) f rows h (wide-rest w r rows k))
+    wide-cons w (cond (mark 0) (f r) r) (altered next f rows) (go (mark 0) (wide-first w r rows k)) (wide-altered w next f rows h (wide-rest w r rows k))
   where
+    next : ℕ → Bool
+    next i = mark (suc i)
+
     go : (b : Bool) → length r ≡ w → length (cond b (f r) r) ≡ w
     go true e = h r e
     go false e = e
@@ -62,13 +66,17 @@ module _ (ws : Words) (t : ℕ) (r : Row) (marks s : Words) (k : ℕ) (fits : k 
   front-long : length front ≡ k * listedCount ws
   unfolding front
   front-long =
-      length-flat (listedCount ws) (altered (isMarked marks) (gives ws t r) (cut (listedCount ws) k s))
-      (wide-altered (listedCount ws) (isMarked marks) (gives ws t r) (cut (listedCount ws) k s) (λ q e. gives-length ws t r q e) (wide-cut (listedCount ws) k s (omega arith)))
-      ∙ ap (λ (n : ℕ). n * listedCount ws) (length-altered (isMarked marks) (gives ws t r) (cut (listedCount ws) k s) ∙ cut-length (listedCount ws) k s)
+      let w = listedCount ws in
+      let rows = cut w k s in
+      let wide : Wide w (altered (isMarked marks) (gives ws t r) rows)
+      = wide-altered w (isMarked marks) (gives ws t r) rows (λ q e. gives-length ws t r q e) (wide-cut w k s (omega arith)) in
+      length-flat w (altered (isMarked marks) (gives ws t r) rows) wide
+      ∙ ap (λ (n : ℕ). n * w) (length-altered (isMarked marks) (gives ws t r) rows ∙ cut-length w k s)
 
   -- with row k given or as it is
   next : (b : Bool) → isMarked marks k ≡ b
-      → given ws t r marks (k + 1) s ≡ front ++ (cond b (gives ws t r (row (listedCount ws) k s)) (row (listedCount ws) k s) ++ drop (k * listedCount ws + listedCount ws) s)
+      → let w = listedCount ws in
+      given ws t r marks (k + 1) s ≡ front ++ (cond b (gives ws t r (row w k s)) (row w k s) ++ drop (k * w + w) s)
   unfolding front given
   next b e =
       let w = listedCount ws in
@@ -86,14 +94,18 @@ module _ (ws : Words) (t : ℕ) (r : Row) (marks s : Words) (k : ℕ) (fits : k 
 
     pub given-stay : isMarked marks k ≡ false → x ≡ given ws t r marks (k + 1) s
     given-stay e =
-        x-is ∙ ap (λ (l : Words). front ++ l) (sym (take-append-drop (listedCount ws) (drop (k * listedCount ws) s)) ∙ ap (λ (l : Words). row (listedCount ws) k s ++ l) (drop-drop (listedCount ws) (k * listedCount ws) s)) ∙ sym (next false e)
+        let w = listedCount ws in
+        let behind : drop (k * w) s ≡ row w k s ++ drop (k * w + w) s
+        = sym (take-append-drop w (drop (k * w) s)) ∙ ap (λ (l : Words). row w k s ++ l) (drop-drop w (k * w) s) in
+        x-is ∙ ap (λ (l : Words). front ++ l) behind ∙ sym (next false e)
 
-    pub given-more : (y : Words) → isMarked marks k ≡ true → y ≡ written x (k * listedCount ws) (gives ws t r (row (listedCount ws) k x)) (listedCount ws) → y ≡ given ws t r marks (k + 1) s
+    pub given-more : (y : Words) → isMarked marks k ≡ true → y ≡ rowGiven ws t r k x → y ≡ given ws t r marks (k + 1) s
     unfolding written
     given-more y e ey =
         let w = listedCount ws in
         let v = gives ws t r (row w k s) in
-        let tk : take (k * w) x ≡ front = rw (x-is, take-at front (drop (k * w) s) (k * w) front-long) in
-        let dr : drop (k * w + w) x ≡ drop (k * w + w) s = rw (← drop-drop w (k * w) x, x-is, drop-at front (drop (k * w) s) (k * w) front-long, drop-drop w (k * w) s) in
+        let rest = drop (k * w) s in
+        let tk : take (k * w) x ≡ front = rw (x-is, take-at front rest (k * w) front-long) in
+        let dr : drop (k * w + w) x ≡ drop (k * w + w) s = rw (← drop-drop w (k * w) x, x-is, drop-at front rest (k * w) front-long, drop-drop w (k * w) s) in
         let vl : length v ≡ w = gives-length ws t r (row w k s) (row-length w k s fits) in
         rw (ey, row-still, tk, dr, take-all w v (omega arith), next true e, append-assoc)

@@ -8,6 +8,7 @@ use lib.Dec.{eqb}
 use lib.ListN.{length, drop}
 use Rattle.lists.specs.Lists.{Words, at, flat}
 use Rattle.rows.specs.Rows.{Row, sameRow, cut}
+use Rattle.rows.specs.Words.{row, written}
 use Rattle.meaning.specs.Sheet.{sheetOf, tableCount, listedCount}
 use Rattle.meaning.specs.Change.{withColumns}
 use Rattle.sheet.specs.Numbered.{widthNo}
@@ -24,6 +25,13 @@ shows ws t r row = sameRow row (gives ws t r row)
 -- its word j does
 unfoldable pub showsAt : Words → ℕ → Row → Row → ℕ → Bool
 showsAt ws t r row j = eqb (at row j) (at (gives ws t r row) j)
+
+-- row i of a run of words shows them, and the words with row i given
+abbrev pub rowShows : Words → ℕ → Row → ℕ → Words → Bool
+rowShows ws t r i s = shows ws t r (row (listedCount ws) i s)
+
+abbrev pub rowGiven : Words → ℕ → Row → ℕ → Words → Words
+rowGiven ws t r i s = written s (i * listedCount ws) (gives ws t r (row (listedCount ws) i s)) (listedCount ws)
 
 -- the first n rows of a run, those that are marked with r's values, and the words behind them
 unfoldable pub given : Words → ℕ → Row → Words → ℕ → Words → Words

@@ -2,27 +2,26 @@
 ghost use mathlib.Core.Path.{_≡_};
 ghost use Prim.Native.Nat.{ℕ, _+_, _*_, _<_, _≤_};
 ghost use lib.ListN.{length};
-ghost use Rattle.rows.specs.Words.{row, written};
 ghost use Rattle.meaning.specs.Sheet.{listedCount};
 ghost use Rattle.sheet.specs.Rules.{Rules};
-ghost use Rattle.columns.specs.Gives.{gives, shows, given, Fits};
+ghost use Rattle.columns.specs.Gives.{rowShows, rowGiven, given, Fits};
 
 // Whether row i of s shows r's values in table t's columns.
-pub fn shows_row(sheet: &[u64], s: &[u64], i: usize, t: u64, r: &[u64]) -> bool
+pub fn shows_row(sheet: &[u64], s: &[u64], i: usize, t: usize, r: &[u64]) -> bool
     requires { ⌜ Rules (now sheet) ⌝ }
     requires { ⌜ Fits (now sheet) t (now r) ⌝ }
     requires { ⌜ i * listedCount (now sheet) + listedCount (now sheet) ≤ length (now s) ⌝ }
-    ensures { λ b. ⌜ b ≡ shows (now (sheet .entry)) t (now (r .entry)) (row (listedCount (now (sheet .entry))) i (now (s .entry))) ⌝ }
+    ensures { λ b. ⌜ b ≡ rowShows (now (sheet .entry)) t (now (r .entry)) i (now (s .entry)) ⌝ }
 {
-    let p = sheet[3] as usize;
-    let from = 4 + sheet[0] as usize + 4 * sheet[1] as usize + 4 * sheet[2] as usize;
+    let p = sheet::listed(sheet);
     let base = i * p;
     let mut k = 0;
     while k < p {
         let j = k;
         k += 1;
-        if sheet[from + 2 * j] == t {
-            let c = sheet[from + 2 * j + 1] as usize;
+        let l = sheet::listing_no(sheet, j);
+        if l.table == t {
+            let c = l.column;
             if s[base + j] != r[c] {
                 return false;
             }
@@ -32,28 +31,28 @@ pub fn shows_row(sheet: &[u64], s: &[u64], i: usize, t: u64, r: &[u64]) -> bool
 }
 
 // Row i of s gets r's values in table t's columns.
-pub fn give_row(sheet: &[u64], s: &mut [u64], i: usize, t: u64, r: &[u64])
+pub fn give_row(sheet: &[u64], s: &mut [u64], i: usize, t: usize, r: &[u64])
     requires { ⌜ Rules (now sheet) ⌝ }
     requires { ⌜ Fits (now sheet) t (now r) ⌝ }
     requires { ⌜ i * listedCount (now sheet) + listedCount (now sheet) ≤ length (now s) ⌝ }
-    ensures { λ _. ⌜ now (s .exit) ≡ written (now (s .entry)) (i * listedCount (now (sheet .entry))) (gives (now (sheet .entry)) t (now (r .entry)) (row (listedCount (now (sheet .entry))) i (now (s .entry)))) (listedCount (now (sheet .entry))) ⌝ }
+    ensures { λ _. ⌜ now (s .exit) ≡ rowGiven (now (sheet .entry)) t (now (r .entry)) i (now (s .entry)) ⌝ }
 {
-    let p = sheet[3] as usize;
-    let from = 4 + sheet[0] as usize + 4 * sheet[1] as usize + 4 * sheet[2] as usize;
+    let p = sheet::listed(sheet);
     let base = i * p;
     let mut k = 0;
     while k < p {
         let j = k;
         k += 1;
-        if sheet[from + 2 * j] == t {
-            let c = sheet[from + 2 * j + 1] as usize;
+        let l = sheet::listing_no(sheet, j);
+        if l.table == t {
+            let c = l.column;
             s[base + j] = r[c];
         }
     }
 }
 
 // Each marked row of the first count rows gets r's values in table t's columns.
-pub fn give_marked(sheet: &[u64], s: &mut [u64], count: usize, marks: &[u16], t: u64, r: &[u64])
+pub fn give_marked(sheet: &[u64], s: &mut [u64], count: usize, marks: &[u16], t: usize, r: &[u64])
     requires { ⌜ Rules (now sheet) ⌝ }
     requires { ⌜ Fits (now sheet) t (now r) ⌝ }
     requires { ⌜ count * listedCount (now sheet) ≤ length (now s) ⌝ }

@@ -2,7 +2,7 @@
 -- Assumes nothing.
 use Prim.Native.Nat.{ℕ, _<_, _≤_}
 use mathlib.Core.Path.{_≡_, sym, ap, ap₂, _∙_}
-use mathlib.Core.Bool.{true, false}
+use mathlib.Core.Bool.{Bool, true, false}
 use mathlib.Core.List.{List}
 use native.Mathlib.Omega.{arith}
 use lib.Dec.{T, leb}
@@ -29,18 +29,20 @@ use Rattle.qualify.specs.Qualifying.{Based, passesNo}
 use Rattle.fillsides.specs.Sides.{sideOf, fitsNo}
 
 -- with all tables left on the path
-pub passes-all : (ws run : Words) (t i : ℕ) → passesNo ws run (tableCount ws) t i ≡ passing (sheetOf ws) (tablesOf ws run) (sheetOf ws .n) t (rowNo (tablesOf ws run) t i)
+pub passes-all : (ws run : Words) (n t i : ℕ) → n ≡ tableCount ws
+    → passesNo ws run n t i ≡ passing (sheetOf ws) (tablesOf ws run) (sheetOf ws .n) t (rowNo (tablesOf ws run) t i)
 unfolding passesNo
-passes-all ws run t i = ap (λ (k : ℕ). passing (sheetOf ws) (tablesOf ws run) k t (rowNo (tablesOf ws run) t i)) (sym (n-is ws))
+passes-all ws run n t i all = ap (λ (k : ℕ). passing (sheetOf ws) (tablesOf ws run) k t (rowNo (tablesOf ws run) t i)) (all ∙ sym (n-is ws))
 
 -- the qualified rows that a loop counts are the side table's
-pub count-is : {ws run : Words} {starts order : List ℕ} → Based ws run starts order → {t : ℕ} → t < tableCount ws → T (kept (sheetOf ws) t) → (many : ℕ)
-    → many ≡ counted (passesNo ws run (tableCount ws) t) (at run t) → many ≡ length (sideOf ws run t)
+pub count-is : {ws run : Words} {starts order : List ℕ} → Based ws run starts order → {t : ℕ} → t < tableCount ws → T (kept (sheetOf ws) t)
+    → (n many : ℕ) → n ≡ tableCount ws → many ≡ counted (passesNo ws run n t) (at run t) → many ≡ length (sideOf ws run t)
 unfolding sideOf passesNo
-count-is {ws} {run} b {t} l k many e =
+count-is {ws} {run} b {t} l k n many all e =
+    let passed : ℕ → ℕ → Bool = λ n i. passing (sheetOf ws) (tablesOf ws run) n t (rowNo (tablesOf ws run) t i) in
     e
-    ∙ ap (λ (n : ℕ). counted (λ i. passing (sheetOf ws) (tablesOf ws run) n t (rowNo (tablesOf ws run) t i)) (at run t)) (sym (n-is ws))
-    ∙ ap (counted (λ i. passing (sheetOf ws) (tablesOf ws run) (sheetOf ws .n) t (rowNo (tablesOf ws run) t i))) (sym (rows-count (b .laid) t l))
+    ∙ ap (λ (n : ℕ). counted (passed n) (at run t)) (all ∙ sym (n-is ws))
+    ∙ ap (counted (passed (sheetOf ws .n))) (sym (rows-count (b .laid) t l))
     ∙ sym (side-count (sheetOf ws) (good-of ws (b .laid .good)) (tablesOf ws run) t (omega (arith, n-is ws)) k)
 
 module _ (ws : Words) {p : Plan} (plan : GoodPlan (sheetOf ws) p) {t : ℕ} (l : t < tableCount ws) where

@@ -1,6 +1,6 @@
 -- The numbers of a table's rows in key order: where they stand, that each is one of the table's, and that their rows' keys rise.
 -- Assumes nothing.
-use Prim.Native.Nat.{ℕ, zero, suc, _+_, _-_, _*_, _<_, _≤_}
+use Prim.Native.Nat.{ℕ, zero, suc, _+_, _-_, _*_, _<_}
 use mathlib.Core.Path.{_≡_, refl, sym, ap, _∙_}
 use mathlib.Core.List.{List, [], _∷_}
 use native.Mathlib.Nat.{not-suc-le-zero, le-of-suc-le-suc}
@@ -17,7 +17,7 @@ use Rattle.rows.proofs.Search.{row-key}
 use Rattle.order.proofs.Keys.{climbs, ordered-number}
 use Rattle.meaning.specs.Sheet.{width, sheetOf, tableCount}
 use Rattle.meaning.specs.Base.{rowsOf}
-use Rattle.sheet.proofs.Words.{n-is, width-is}
+use Rattle.sheet.proofs.Words.{n-is}
 use Rattle.filling.specs.Runs.{tableWords}
 use Rattle.filling.specs.Qualifies.{numbered}
 use Rattle.filling.proofs.Runs.{words-long, rows-are}
@@ -58,15 +58,12 @@ module _ {ws run : Words} {starts order : List ℕ} (b : Based ws run starts ord
   pub order-same : Same (numbersOf run order t) (upTo (length (rowsOf (tablesOf ws run) t)))
   order-same f = b .orders .ordered t l .same f ∙ ap (λ (k : ℕ). total f (upTo k)) (order-long ∙ sym (rows-count (b .laid) t l))
 
-  some : 1 ≤ width (sheetOf ws) t
-  some = omega (arith, width-some (b .laid) l, width-is ws t l)
-
   order-row : (j : ℕ) → j < at run t → at (numbersOf run order t) j < at run t
   order-row j h =
       omega (
         arith,
         order-long,
-        ordered-number (tableWords (sheetOf ws) run t) (width (sheetOf ws) t) (numbersOf run order t) some
+        ordered-number (tableWords (sheetOf ws) run t) (width (sheetOf ws) t) (numbersOf run order t) (width-some (b .laid) l)
             (rw order-long (omega (arith, words-long (sheetOf ws) run (b .laid .counted) t inside))) (b .orders .ordered t l) j (omega (arith, order-long)),
       )
 
@@ -81,15 +78,17 @@ module _ {ws run : Words} {starts order : List ℕ} (b : Based ws run starts ord
       let words = tableWords (sheetOf ws) run t in
       ap (λ (rows : Rows). key (getD rows i [])) (rows-are (sheetOf ws) run (b .laid .counted) t inside)
       ∙ ap key (cut-at w (at run t) words i h)
-      ∙ row-key w i words some
+      ∙ row-key w i words (width-some (b .laid) l)
 
   pub order-up : KeysUp (numbered (rowsOf (tablesOf ws run) t) (numbersOf run order t))
   order-up i j h k =
       let rows = rowsOf (tablesOf ws run) t in
       let o = numbersOf run order t in
       let long : j < at run t = omega (arith, numbered-long rows o, order-long) in
-      let first : key (getD (numbered rows o) i []) ≡ at (tableWords (sheetOf ws) run t) (at o i * width (sheetOf ws) t) =
+      let words = tableWords (sheetOf ws) run t in
+      let w = width (sheetOf ws) t in
+      let first : key (getD (numbered rows o) i []) ≡ at words (at o i * w) =
       ap key (numbered-at rows o i (omega (arith, order-long))) ∙ key-of (at o i) (order-row i (omega arith)) in
-      let next : key (getD (numbered rows o) j []) ≡ at (tableWords (sheetOf ws) run t) (at o j * width (sheetOf ws) t) =
+      let next : key (getD (numbered rows o) j []) ≡ at words (at o j * w) =
       ap key (numbered-at rows o j (omega (arith, order-long))) ∙ key-of (at o j) (order-row j long) in
-      omega (arith, climbs (tableWords (sheetOf ws) run t) (width (sheetOf ws) t) o (b .orders .ordered t l .up) i j (omega arith) (omega (arith, order-long)))
+      omega (arith, climbs words w o (b .orders .ordered t l .up) i j (omega arith) (omega (arith, order-long)))

@@ -7,7 +7,7 @@ use mathlib.Core.List.{List, [], _∷_, _++_, map}
 use native.Mathlib.Nat.{not-suc-le-zero, le-of-suc-le-suc, mul-le-mul-right}
 use native.Mathlib.Omega.{arith}
 use lib.Dec.{T}
-use lib.ListN.{length, getD, take, drop, set, replicate, length-map, length-append, take-append-drop}
+use lib.ListN.{length, getD, take, drop, set, length-map, length-append, take-append-drop}
 use lib.Seq.{take-all}
 use Rattle.lists.specs.Lists.{Words, at, select}
 use Rattle.lists.proofs.Truth.{mem-getD}
@@ -31,8 +31,8 @@ use Rattle.places.proofs.Laid.{laid-none, laid-more}
 use Rattle.filling.proofs.Sides.{side-none, side-hit, side-miss, side-all}
 use Rattle.base.specs.Bases.{tablesOf, numbersOf, Laid}
 use Rattle.base.proofs.Steps.{good-of}
-use Rattle.qualify.specs.Qualifying.{Based, passesNo}
-use Rattle.fillsides.specs.Sides.{sideOf, rowsTo, Front}
+use Rattle.qualify.specs.Qualifying.{passesNo}
+use Rattle.fillsides.specs.Sides.{sideOf, sideRow, rowsTo, PartReady, Front}
 use Rattle.fillsides.proofs.Numbers.{number-is, order-long, order-same, order-up}
 use Rattle.fillsides.proofs.Counts.{passes-all}
 
@@ -46,9 +46,10 @@ picked (x ∷ columns) r zero h = refl
 picked (x ∷ columns) r (suc k) h = picked columns r k (le-of-suc-le-suc h)
 
 module _ {ws run : Words} {starts : List ℕ} (b : Laid ws run starts) {t i : ℕ} (l : t < tableCount ws) (h : i < at run t) where
-  pub column-more : (s x : Words) (place : ℕ) (columns : List ℕ) (k v : ℕ) → columns ≡ shown (sheetOf ws) t → place + length columns ≤ length s → k < length columns
-      → v ≡ at (rowNo (tablesOf ws run) t i) (at columns k) → x ≡ written s place (pick (shown (sheetOf ws) t) (rowNo (tablesOf ws run) t i)) k
-      → set x (place + k) v ≡ written s place (pick (shown (sheetOf ws) t) (rowNo (tablesOf ws run) t i)) (k + 1)
+  pub column-more : (s x : Words) (place : ℕ) (columns : List ℕ) (k v : ℕ) → columns ≡ shown (sheetOf ws) t → place + length columns ≤ length s
+      → k < length columns → v ≡ at (rowNo (tablesOf ws run) t i) (at columns k) → x ≡ written s place (sideRow ws run t i) k
+      → set x (place + k) v ≡ written s place (sideRow ws run t i) (k + 1)
+  unfolding sideRow
   column-more s x place columns k v e fits m q inv =
       let r = rowNo (tablesOf ws run) t i in
       let shows = shown (sheetOf ws) t in
@@ -83,87 +84,103 @@ side-append s base t xs ys =
 
 side-front : (s : Sheet) (base : Tables) (t : ℕ) (order : List ℕ) (j : ℕ) → length (sideRows s base t (take j order)) ≤ length (sideRows s base t order)
 side-front s base t order j =
-    let whole : length (sideRows s base t order) ≡ length (sideRows s base t (take j order)) + length (sideRows s base t (drop j order)) =
+    let front = sideRows s base t (take j order) in
+    let rest = sideRows s base t (drop j order) in
+    let whole : length (sideRows s base t order) ≡ length front + length rest =
     ap (λ (o : List ℕ). length (sideRows s base t o)) (sym (take-append-drop j order)) ∙ ap length (side-append s base t (take j order) (drop j order))
-    ∙ length-append (sideRows s base t (take j order)) (sideRows s base t (drop j order)) in
+    ∙ length-append front rest in
     omega arith
 
-module _ {ws run : Words} {starts order : List ℕ} (b : Based ws run starts order) {t : ℕ} (l : t < tableCount ws) (is : T (kept (sheetOf ws) t)) where
+module _ {ws run : Words} {starts order : List ℕ} {t : ℕ} {columns : List ℕ} {part₀ : Words} (a : PartReady ws run starts order t columns part₀) where
   inside : t < sheetOf ws .n
-  inside = omega (arith, n-is ws)
+  inside = omega (arith, a .table, n-is ws)
+
+  long : length (numbersOf run order t) ≡ at run t
+  long = order-long (a .based) (a .table)
 
   rows-all : (j : ℕ) → at run t ≤ j → rowsTo ws run order t j ≡ sideOf ws run t
   unfolding rowsTo sideOf
   rows-all j h =
-      side-all (sheetOf ws) (good-of ws (b .laid .good)) (tablesOf ws run) t inside is (numbersOf run order t) j (order-same b l) (order-up b l) (b .once t l)
-      (omega (arith, order-long b l))
+      let b = a .based in
+      let l = a .table in
+      side-all (sheetOf ws) (good-of ws (b .laid .good)) (tablesOf ws run) t inside (a .is-kept) (numbersOf run order t) j
+      (order-same b l) (order-up b l) (b .once t l) (omega (arith, long))
 
   rows-few : (j : ℕ) → length (rowsTo ws run order t j) ≤ length (sideOf ws run t)
   unfolding rowsTo
   rows-few j =
+      let o = numbersOf run order t in
       omega (
         arith,
-        side-front (sheetOf ws) (tablesOf ws run) t (numbersOf run order t) j,
+        side-front (sheetOf ws) (tablesOf ws run) t o j,
         ap length (rows-all (at run t) (omega arith)),
-        ap (λ (o : List ℕ). length (sideRows (sheetOf ws) (tablesOf ws run) t o)) (take-all (at run t) (numbersOf run order t) (omega (arith, order-long b l))),
+        ap (λ (o : List ℕ). length (sideRows (sheetOf ws) (tablesOf ws run) t o)) (take-all (at run t) o (omega (arith, long))),
       )
 
   wide-rows : (j : ℕ) → Wide (length (shown (sheetOf ws) t)) (rowsTo ws run order t j)
   unfolding rowsTo sideRows
-  wide-rows j = wide-picks (shown (sheetOf ws) t) (select (passing (sheetOf ws) (tablesOf ws run) (sheetOf ws .n) t) (numbered (rowsOf (tablesOf ws run) t) (take j (numbersOf run order t))))
+  wide-rows j =
+      let rows = numbered (rowsOf (tablesOf ws run) t) (take j (numbersOf run order t)) in
+      wide-picks (shown (sheetOf ws) t) (select (passing (sheetOf ws) (tablesOf ws run) (sheetOf ws .n) t) rows)
 
-  pub front-none : (part : Words) → part ≡ replicate (length part) 0 → Front (rowsTo ws run order t 0) (length part) 0 part
+  pub front-none : Front (rowsTo ws run order t 0) (length part₀) 0 part₀
   unfolding rowsTo
-  front-none part zeros =
+  front-none =
       let none = side-none (sheetOf ws) (tablesOf ws run) t (numbersOf run order t) in
-      record { many-are = rw none; words = rw none (zeros ∙ laid-none (length part)); long = refl }
+      record { many-are = rw none; words = rw none (a .zeros ∙ laid-none (length part₀)); long = refl }
 
-  pub front-end : (size many : ℕ) (part : Words) (j : ℕ) → at run t ≤ j → Front (rowsTo ws run order t j) size many part → Front (sideOf ws run t) size many part
-  front-end size many part j h f = subst (λ (rows : Rows). Front rows size many part) (rows-all j h) f
+  pub front-end : (many : ℕ) (part : Words) (j : ℕ) → at run t ≤ j → Front (rowsTo ws run order t j) (length part₀) many part
+      → Front (sideOf ws run t) (length part₀) many part
+  front-end many part j h f = subst (λ (rows : Rows). Front rows (length part₀) many part) (rows-all j h) f
 
   -- Row j in key order
-  module _ (size many : ℕ) (part : Words) (j i : ℕ) (f : Front (rowsTo ws run order t j) size many part) (h : j < at run t) (e : i ≡ at order (65535 * t + j)) where
+  module _ (many : ℕ) (part : Words) (j i n : ℕ) (f : Front (rowsTo ws run order t j) (length part₀) many part)
+      (h : j < at run t) (e : i ≡ at order (65535 * t + j)) (all : n ≡ tableCount ws) where
     number : i ≡ at (numbersOf run order t) j
-    number = e ∙ number-is b l j h
+    number = e ∙ number-is (a .based) (a .table) j h
 
-    decides : passesNo ws run (tableCount ws) t i ≡ passing (sheetOf ws) (tablesOf ws run) (sheetOf ws .n) t (rowNo (tablesOf ws run) t (at (numbersOf run order t) j))
-    decides = passes-all ws run t i ∙ ap (λ (i : ℕ). passing (sheetOf ws) (tablesOf ws run) (sheetOf ws .n) t (rowNo (tablesOf ws run) t i)) number
+    decides : passesNo ws run n t i
+        ≡ passing (sheetOf ws) (tablesOf ws run) (sheetOf ws .n) t (rowNo (tablesOf ws run) t (at (numbersOf run order t) j))
+    decides =
+        passes-all ws run n t i all ∙ ap (λ (i : ℕ). passing (sheetOf ws) (tablesOf ws run) (sheetOf ws .n) t (rowNo (tablesOf ws run) t i)) number
 
-    pub front-miss : passesNo ws run (tableCount ws) t i ≡ false → Front (rowsTo ws run order t (j + 1)) size many part
+    pub front-miss : passesNo ws run n t i ≡ false → Front (rowsTo ws run order t (j + 1)) (length part₀) many part
     unfolding rowsTo
     front-miss q =
-        subst (λ (rows : Rows). Front rows size many part)
-        (sym (side-miss (sheetOf ws) (tablesOf ws run) t (numbersOf run order t) j (omega (arith, order-long b l)) (sym decides ∙ q))) f
+        let same = side-miss (sheetOf ws) (tablesOf ws run) t (numbersOf run order t) j (omega (arith, long)) (sym decides ∙ q) in
+        subst (λ (rows : Rows). Front rows (length part₀) many part) (sym same) f
 
-    module _ (q : passesNo ws run (tableCount ws) t i ≡ true) where
-      more : rowsTo ws run order t (j + 1) ≡ rowsTo ws run order t j ++ (pick (shown (sheetOf ws) t) (rowNo (tablesOf ws run) t i) ∷ [])
-      unfolding rowsTo
+    module _ (q : passesNo ws run n t i ≡ true) where
+      more : rowsTo ws run order t (j + 1) ≡ rowsTo ws run order t j ++ (sideRow ws run t i ∷ [])
+      unfolding rowsTo sideRow
       more =
-          side-hit (sheetOf ws) (tablesOf ws run) t (numbersOf run order t) j (omega (arith, order-long b l)) (sym decides ∙ q)
-          ∙ ap (λ (i : ℕ). sideRows (sheetOf ws) (tablesOf ws run) t (take j (numbersOf run order t)) ++ (pick (shown (sheetOf ws) t) (rowNo (tablesOf ws run) t i) ∷ [])) (sym number)
+          let o = numbersOf run order t in
+          side-hit (sheetOf ws) (tablesOf ws run) t o j (omega (arith, long)) (sym decides ∙ q)
+          ∙ ap (λ (i : ℕ). sideRows (sheetOf ws) (tablesOf ws run) t (take j o) ++ (pick (shown (sheetOf ws) t) (rowNo (tablesOf ws run) t i) ∷ []))
+          (sym number)
 
       more-long : length (rowsTo ws run order t (j + 1)) ≡ many + 1
-      more-long =
-          ap length more ∙ length-append (rowsTo ws run order t j) (pick (shown (sheetOf ws) t) (rowNo (tablesOf ws run) t i) ∷ []) ∙ omega (arith, f .many-are)
+      more-long = ap length more ∙ length-append (rowsTo ws run order t j) (sideRow ws run t i ∷ []) ∙ omega (arith, f .many-are)
 
-      pub front-less : many < length (sideOf ws run t)
-      front-less = omega (arith, more-long, rows-few (j + 1))
+      pub front-room : many * length columns + length columns ≤ length part₀
+      front-room =
+          let less : many < length (sideOf ws run t) = omega (arith, more-long, rows-few (j + 1)) in
+          omega (arith, mul-le-mul-right (length columns) less, a .room)
 
-      module _ (w : ℕ) (fits : length (sideOf ws run t) * w ≤ size) where
-        pub front-room : many * w + w ≤ size
-        front-room = omega (arith, mul-le-mul-right w front-less)
-
-        pub front-hit : w ≡ length (shown (sheetOf ws) t) → (after : Words)
-            → length after ≡ length part → after ≡ written part (many * w) (pick (shown (sheetOf ws) t) (rowNo (tablesOf ws run) t i)) w
-            → Front (rowsTo ws run order t (j + 1)) size (many + 1) after
-        front-hit same after k a =
-            let rows = rowsTo ws run order t j in
-            let r = pick (shown (sheetOf ws) t) (rowNo (tablesOf ws run) t i) in
-            let wide : Wide w rows = rw same (wide-rows j) in
-            let now : after ≡ laid size (rows ++ (r ∷ [])) =
-            a ∙ rw (f .words, f .many-are) (laid-more w size rows wide r (length-map (shown (sheetOf ws) t) (at (rowNo (tablesOf ws run) t i)) ∙ sym same) (rw (f .many-are) at front-room)) in
-            record {
-              many-are = sym more-long;
-              words = now ∙ ap (laid size) (sym more);
-              long = k ∙ f .long;
-            }
+      pub front-hit : (after : Words) → length after ≡ length part
+          → after ≡ written part (many * length columns) (sideRow ws run t i) (length columns)
+          → Front (rowsTo ws run order t (j + 1)) (length part₀) (many + 1) after
+      unfolding sideRow
+      front-hit after k w =
+          let rows = rowsTo ws run order t j in
+          let r = sideRow ws run t i in
+          let same = ap length (a .columns-are) in
+          let wide : Wide (length columns) rows = rw same (wide-rows j) in
+          let r-wide = length-map (shown (sheetOf ws) t) (at (rowNo (tablesOf ws run) t i)) ∙ sym same in
+          let now : after ≡ laid (length part₀) (rows ++ (r ∷ [])) =
+          w ∙ rw (f .words, f .many-are) (laid-more (length columns) (length part₀) rows wide r r-wide (rw (f .many-are) at front-room)) in
+          record {
+            many-are = sym more-long;
+            words = now ∙ ap (laid (length part₀)) (sym more);
+            long = k ∙ f .long;
+          }

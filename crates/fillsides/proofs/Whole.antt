@@ -1,7 +1,6 @@
 -- The side tables as a whole: all have room, zeros stand for a store in which none is written, and what stands when all are.
 -- Assumes nothing.
-use Prim.Native.Nat.{ℕ}
-use mathlib.Core.Path.{_≡_, ap, sym, _∙_}
+use mathlib.Core.Path.{_≡_, ap, sym}
 use lib.ListN.{length, replicate}
 use Rattle.lists.specs.Lists.{Words}
 use Rattle.lists.specs.Loops.{every}

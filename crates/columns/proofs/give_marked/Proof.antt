@@ -20,11 +20,11 @@ abbrev μ-loop : tie.MeasureT-loop
 
 -- row i is one of the rows
 here : (c : tie.In-loop Inv-loop μ-loop)
-    → let st = c .before .before .before .before .before .before in
-    c .before .loop .i * listedCount (st .args .sheet .now) + listedCount (st .args .sheet .now) ≤ length (st .args .s .now)
+    → let start = c .before .before .before .before .before .before in
+    c .before .loop .i * listedCount (start .args .sheet .now) + listedCount (start .args .sheet .now) ≤ length (start .args .s .now)
 here c =
-    let st = c .before .before .before .before .before .before in
-    row-fits (listedCount (st .args .sheet .now)) (st .args .count) (c .before .loop .i) _ (c .loop-test .taken) (st .pre .1 .1 .0)
+    let start = c .before .before .before .before .before .before in
+    row-fits (listedCount (start .args .sheet .now)) (start .args .count) (c .before .loop .i) _ (c .loop-test .taken) (start .pre .1 .1 .0)
 
 loop-holds : tie.Need-loop-holds Inv-loop μ-loop
 loop-holds c = (search needs, refl, given-start _ _ _ _ _)
@@ -39,28 +39,39 @@ shared-slice-read-if1 : tie.Need-shared-slice-read-if1 Inv-loop μ-loop
 shared-slice-read-if1 c = search needs
 
 give-row-requires : tie.Need-give-row-requires Inv-loop μ-loop
-give-row-requires c κs = let st = c .before .before .before .before .before .before .before .before .before in
-    (st .pre .0, (st .pre .1 .0, omega (arith, here (c .before .before .before), c .before .before .before .before .loop .inv .1)))
+give-row-requires c κs =
+    let turn = c .before .before .before in
+    let start = turn .before .before .before .before .before .before in
+    (start .pre .0, (start .pre .1 .0, omega (arith, here turn, turn .before .loop .inv .1)))
 
 loop-less : tie.Need-loop-less Inv-loop μ-loop
 loop-less c = search needs
 
 loop-again : tie.Need-loop-again Inv-loop μ-loop
-loop-again c = let lp = c .before .before .before .before .before .before .before in
-    (omega arith, c .before .before .give-row .kept .1 .0 ∙ lp .loop .inv .1, given-more _ _ _ _ _ _ (here (c .before .before .before .before .before .before)) _ (lp .loop .inv .2) _ (is-marked _ _ (c .before .before .before .before .if1 .taken)) (c .before .before .give-row .ensures))
+loop-again c =
+    let call = c .before .before in
+    let turn = call .before .before .before .before in
+    let inv = turn .before .loop .inv in
+    let marked = is-marked _ _ (call .before .before .if1 .taken) in
+    (omega arith, call .give-row .kept .1 .0 ∙ inv .1, given-more _ _ _ _ _ _ (here turn) _ (inv .2) _ marked (call .give-row .ensures))
 
 loop-less-2 : tie.Need-loop-less-2 Inv-loop μ-loop
 loop-less-2 c = search needs
 
 loop-again-2 : tie.Need-loop-again-2 Inv-loop μ-loop
-loop-again-2 c = let lp = c .before .before .before in
-    (omega arith, lp .loop .inv .1, given-stay _ _ _ _ _ _ (here (c .before .before)) _ (lp .loop .inv .2) (not-marked _ _ (c .if1 .left)))
+loop-again-2 c =
+    let turn = c .before .before in
+    let inv = turn .before .loop .inv in
+    (omega arith, inv .1, given-stay _ _ _ _ _ _ (here turn) _ (inv .2) (not-marked _ _ (c .if1 .left)))
 
 same-length : tie.Need-same-length Inv-loop μ-loop
 same-length c = search needs
 
 returns : tie.Need-returns Inv-loop μ-loop
-returns c = let e : c .before .loop .i ≡ c .before .before .before .before .before .before .args .count = omega arith in c .before .loop .inv .2 ∙ rw e
+returns c =
+    let end = c .before .loop in
+    let e : end .i ≡ c .before .before .before .before .before .before .args .count = omega arith in
+    end .inv .2 ∙ rw e
 
 pub give-marked-spec : {M : Type 1} → statement M
 give-marked-spec =

@@ -3,13 +3,8 @@
 use Prim.Native.Nat.{_-_, _≤_}
 use mathlib.Core.Path.{_≡_, refl}
 use lib.ListN.{length, length-set}
-use Rattle.rows.specs.Rows.{pick}
-use Rattle.rows.specs.Words.{written}
 use Rattle.rows.proofs.Moves.{written-start}
-use Rattle.meaning.specs.Sheet.{sheetOf}
-use Rattle.meaning.specs.Plan.{shown}
-use Rattle.filling.specs.Runs.{rowNo}
-use Rattle.base.specs.Bases.{tablesOf}
+use Rattle.fillsides.specs.Sides.{rowPut}
 use Rattle.fillsides.proofs.Rows.{column-in, column-more, columns-end}
 use borrow.Author.Needs.{needs}
 use native.Mathlib.Omega.{arith}
@@ -17,7 +12,8 @@ use Rattle.fillsides.proofs.write_row.Statement.{statement}
 use Rattle.fillsides.proofs.write_row.Tie as tie
 
 abbrev Inv-loop : tie.InvT-loop
-Inv-loop sheet run starts t i columns part₀ place count k₀ part k = (k ≤ count) × (length part ≡ length part₀) × (part ≡ written part₀ place (pick (shown (sheetOf sheet) t) (rowNo (tablesOf sheet run) t i)) k)
+Inv-loop sheet run starts t i columns part₀ place count k₀ part k =
+    (k ≤ count) × (length part ≡ length part₀) × (part ≡ rowPut sheet run t i part₀ place k)
 
 abbrev μ-loop : tie.MeasureT-loop
 μ-loop sheet run starts t i columns part₀ place count k₀ part k = count - k
@@ -32,7 +28,10 @@ shared-slice-read-c : tie.Need-shared-slice-read-c Inv-loop μ-loop
 shared-slice-read-c c = search needs
 
 cell-requires : tie.Need-cell-requires Inv-loop μ-loop
-cell-requires c κs = (c .before .before .before .before .before .before .before .pre .0, (c .before .before .before .before .before .before .before .pre .1 .0, (c .before .before .before .before .before .before .before .pre .1 .1 .0, column-in _ _ _ _ (c .before .before .before .before .before .before .before .pre .1 .1 .1 .0) (c .before .loop-test .taken))))
+cell-requires c κs =
+    let at-start = c .before .before .before .before .before .before .before in
+    let asked = at-start .pre in
+    (asked .0, (asked .1 .0, (asked .1 .1 .0, column-in _ _ _ _ (asked .1 .1 .1 .0) (c .before .loop-test .taken))))
 
 add-part : tie.Need-add-part Inv-loop μ-loop
 add-part c = search needs
@@ -50,13 +49,22 @@ loop-less : tie.Need-loop-less Inv-loop μ-loop
 loop-less c = search needs
 
 loop-again : tie.Need-loop-again Inv-loop μ-loop
-loop-again c = (omega arith, simp length-set (c .before .before .before .loop .inv .1), column-more (c .before .before .before .before .before .before .before .before .pre .0) (c .before .before .before .before .before .before .before .before .pre .1 .0) (c .before .before .before .before .before .before .before .before .pre .1 .1 .0) _ _ _ _ _ _ (c .before .before .before .before .before .before .before .before .pre .1 .1 .1 .0) (c .before .before .before .before .before .before .before .before .pre .1 .1 .1 .1) (c .before .before .loop-test .taken) (c .cell .ensures) (c .before .before .before .loop .inv .2))
+loop-again c =
+    let at-loop-test = c .before .before in
+    let at-loop = at-loop-test .before in
+    let at-start = at-loop .before .before .before .before .before in
+    let asked = at-start .pre in
+    let inv = at-loop .loop .inv in
+    let more = column-more (asked .0) (asked .1 .0) (asked .1 .1 .0) _ _ _ _ _ _ (asked .1 .1 .1 .0) (asked .1 .1 .1 .1) in
+    (omega arith, simp length-set (inv .1), more (at-loop-test .loop-test .taken) (c .cell .ensures) (inv .2))
 
 same-length : tie.Need-same-length Inv-loop μ-loop
 same-length c = search needs
 
 returns : tie.Need-returns Inv-loop μ-loop
-returns c = columns-end _ _ _ _ _ _ (c .before .loop .inv .0) (c .loop-test .left) (c .before .loop .inv .2)
+returns c =
+    let inv = c .before .loop .inv in
+    columns-end _ _ _ _ _ _ (inv .0) (c .loop-test .left) (inv .2)
 
 pub write-row-spec : {M : Type 1} → statement M
 write-row-spec =
