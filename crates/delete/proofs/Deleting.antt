@@ -23,7 +23,7 @@ use Rattle.store.specs.declared.Answer.the-variants.{Done, Refused}
 use Rattle.store.specs.Parts.{rowsIn, Lies, Wrote}
 use Rattle.store.proofs.Answers.{says-refused}
 use Rattle.store.proofs.Lying.{rows-is}
-use Rattle.sides.specs.Sides.{Sided}
+use Rattle.side_table.specs.Sides.{Sided}
 use Rattle.routes.specs.Ready.{Ready}
 use Rattle.written.proofs.Answers.{says-nothing, says-all}
 use Rattle.written.proofs.Halves.{ready-good, ready-table, both-words}

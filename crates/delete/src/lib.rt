@@ -21,7 +21,7 @@ pub fn delete(
     ensures { λ a. ⌜ Deletes (now (sheet .entry)) (now (store .entry)) table (now (row .entry)) a (now (store .exit)) ⌝ }
 {
     let qualified = ways::is_qualified(sheet, route, store, table, row);
-    if !sides::old_row(sheet, plan, store, table, row, qualified) {
+    if !side_table::old_row(sheet, plan, store, table, row, qualified) {
         return Answer::Refused(8);
     }
     if !qualified {
@@ -34,6 +34,6 @@ pub fn delete(
         return Answer::Refused(8);
     };
     store::take_marked(store, list, &marks);
-    sides::take_side(sheet, plan, store, table, row);
+    side_table::take_side(sheet, plan, store, table, row);
     Answer::Done(taken as u64, 0)
 }

@@ -27,11 +27,11 @@ use Rattle.store.specs.declared.Answer.the-variants.{Done, Refused}
 use Rattle.store.specs.Parts.{rowsIn, countIn, Lies, Wrote}
 use Rattle.store.proofs.Answers.{says-refused}
 use Rattle.store.proofs.Lying.{count-is, rows-is}
-use Rattle.listpart.proofs.Lists.{list-room}
+use Rattle.list_part.proofs.Lists.{list-room}
 use Rattle.routes.specs.Ready.{Ready}
 use Rattle.added.specs.Adding.{Adding}
-use Rattle.sides.specs.Sides.{hasRoom, Sided}
-use Rattle.sides.proofs.Tests.{room-full, room-free}
+use Rattle.side_table.specs.Sides.{hasRoom, Sided}
+use Rattle.side_table.proofs.Tests.{room-full, room-free}
 use Rattle.written.proofs.Answers.{says-nothing, says-all}
 use Rattle.written.proofs.Halves.{ready-good, ready-table, half-side, both-words}
 use Rattle.insert.specs.Inserts.{Inserts}

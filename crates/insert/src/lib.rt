@@ -19,13 +19,13 @@ pub fn insert(
     requires { ⌜ Lent (now sheet) table (now row) ⌝ }
     ensures { λ a. ⌜ Inserts (now (sheet .entry)) (now (store .entry)) table (now (row .entry)) a (now (store .exit)) ⌝ }
 {
-    if !sides::new_key(sheet, plan, store, table, row) {
+    if !side_table::new_key(sheet, plan, store, table, row) {
         return Answer::Refused(8);
     }
     if !ways::is_qualified(sheet, route, store, table, row) {
         return Answer::Done(0, 0);
     }
-    if !sides::has_room(sheet, plan, store, table) {
+    if !side_table::has_room(sheet, plan, store, table) {
         return Answer::Refused(9);
     }
     let list = store::part_of(plan, plan.tables);
@@ -36,6 +36,6 @@ pub fn insert(
         return Answer::Refused(9);
     }
     added::add_ways(sheet, route, store, list, table, row);
-    sides::put_side(sheet, plan, store, table, row);
+    side_table::put_side(sheet, plan, store, table, row);
     Answer::Done(0, added as u64)
 }

@@ -8,7 +8,7 @@ use lib.ListN.{length, getD, set}
 use lib.Seq.{set-getD}
 use borrow.Rule.Slice.PartMut.{putMid}
 use Rattle.lists.specs.Lists.{Words}
-use Rattle.lists.specs.Parts.{part}
+use Rattle.lists.specs.Parts.{part, splice}
 use Rattle.lists.proofs.Parts.{put-back, length-part}
 use Rattle.rows.specs.Rows.{Rows}
 use Rattle.rows.specs.Regions.{laid, Holds, soundRegion, soundSide}
@@ -16,7 +16,7 @@ use Rattle.rows.proofs.Cut.{row-fits}
 use Rattle.rows.proofs.Regions.{holds-count}
 use Rattle.places.proofs.Splices.{at-splice}
 use Rattle.store.specs.declared.Part.{Part}
-use Rattle.store.specs.Parts.{sizeOf, stopOf, wordsIn, countIn, soundIn, Kept, withRows, Wrote}
+use Rattle.store.specs.Parts.{sizeOf, stopOf, wordsIn, countIn, soundIn, Within, Kept, withRows, Wrote}
 
 -- what the two tests of `rows` find is what is asked of a part
 module _ (p : Part) (keyed : Bool) (ws : Words) (b : Bool) where
@@ -28,37 +28,48 @@ module _ (p : Part) (keyed : Bool) (ws : Words) (b : Bool) where
   unfolding soundIn
   sound-unkeyed e h = rw e h
 
-module _ (p : Part) (ws : Words) (k : Kept p ws) where
-  pub words-length : length (wordsIn p ws) ≡ sizeOf p
+module _ (p : Part) (ws : Words) (win : Within p ws) where
+  pub part-long : length (wordsIn p ws) ≡ sizeOf p
   unfolding wordsIn
-  words-length = length-part ws (p .start) (stopOf p) (k .within .ends) ∙ omega arith
+  part-long = length-part ws (p .start) (stopOf p) (win .ends) ∙ omega arith
 
-  -- one row more has room
-  pub one-more : countIn p ws < p .room → countIn p ws * p .columns + p .columns ≤ length (wordsIn p ws)
-  one-more l = row-fits (p .columns) (p .room) (countIn p ws) (length (wordsIn p ws)) l (omega (arith, words-length))
-
-  -- what a lent part leaves, when it is back and its count is set
-  pub wrote : (rows : Rows) (n : ℕ) (x : Words) → Holds (p .columns) n rows x → length x ≡ length (wordsIn p ws)
-      → Wrote p rows ws (set (putMid (p .start) (stopOf p - p .start) ws x) (p .slot) n)
+  -- the part's words written anew, and its count set
+  pub wrote-anew : (rows : Rows) (n : ℕ) (x : Words) → Holds (p .columns) n rows x → length x ≡ sizeOf p
+      → Wrote p rows ws (set (splice ws (p .start) (stopOf p) x) (p .slot) n)
   unfolding withRows
-  wrote rows n x h e =
-      let long : length x ≡ sizeOf p = e ∙ words-length in
+  wrote-anew rows n x h long =
       let is : x ≡ laid (sizeOf p) rows = h .words ∙ ap (λ (j : ℕ). laid j rows) long in
       let many : n ≡ length rows = sym (holds-count (p .columns) n rows x h) in
       record {
-        words = ap₂ (λ (y : Words) (j : ℕ). set y (p .slot) j) (put-back ws (p .start) (stopOf p) x (laid (sizeOf p) rows) (omega arith) is) many;
+        words = ap₂ (λ (y : Words) (j : ℕ). set (splice ws (p .start) (stopOf p) y) (p .slot) j) is many;
         long = ap length (sym is) ∙ long;
         held = rw (is, many) at h;
       }
 
-  -- and where its count stays
+  -- a lent part that is back
+  back : (x : Words) → putMid (p .start) (stopOf p - p .start) ws x ≡ splice ws (p .start) (stopOf p) x
+  back x = put-back ws (p .start) (stopOf p) x x (omega arith) refl
+
+  -- and its count is set
+  pub wrote : (rows : Rows) (n : ℕ) (x : Words) → Holds (p .columns) n rows x → length x ≡ length (wordsIn p ws)
+      → Wrote p rows ws (set (putMid (p .start) (stopOf p - p .start) ws x) (p .slot) n)
+  wrote rows n x h e = rw (back x) (wrote-anew rows n x h (e ∙ part-long))
+
+  -- or stays
   pub wrote-as-many : (rows : Rows) (x : Words) → Holds (p .columns) (countIn p ws) rows x → length x ≡ length (wordsIn p ws)
       → Wrote p rows ws (putMid (p .start) (stopOf p - p .start) ws x)
   wrote-as-many rows x h e =
-      let back = put-back ws (p .start) (stopOf p) x x (omega arith) refl in
-      let counted : getD (putMid (p .start) (stopOf p - p .start) ws x) (p .slot) 0 ≡ countIn p ws =
-      ap (λ (y : Words). getD y (p .slot) 0) back
-      ∙ at-splice ws (p .start) (stopOf p) x (omega arith) (k .within .ends) (p .slot) (omega (arith, k .within .counted, k .within .behind)) in
-      subst (Wrote p rows ws)
-      (ap (set (putMid (p .start) (stopOf p - p .start) ws x) (p .slot)) (sym counted) ∙ set-getD (putMid (p .start) (stopOf p - p .start) ws x) (p .slot) 0)
-      (wrote rows (countIn p ws) x h e)
+      let y = splice ws (p .start) (stopOf p) x in
+      let counted : getD y (p .slot) 0 ≡ countIn p ws
+      = at-splice ws (p .start) (stopOf p) x (omega arith) (win .ends) (p .slot) (omega (arith, win .counted, win .behind)) in
+      rw (back x)
+      (subst (Wrote p rows ws) (ap (set y (p .slot)) (sym counted) ∙ set-getD y (p .slot) 0)
+      (wrote-anew rows (countIn p ws) x h (e ∙ part-long)))
+
+module _ (p : Part) (ws : Words) (k : Kept p ws) where
+  pub words-length : length (wordsIn p ws) ≡ sizeOf p
+  words-length = part-long p ws (k .within)
+
+  -- one row more has room
+  pub one-more : countIn p ws < p .room → countIn p ws * p .columns + p .columns ≤ length (wordsIn p ws)
+  one-more l = row-fits (p .columns) (p .room) (countIn p ws) (length (wordsIn p ws)) l (omega (arith, words-length))

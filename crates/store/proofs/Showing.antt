@@ -48,7 +48,8 @@ stretch-ends q ws k = omega (arith, k .within .ends, k .region .fits, words-leng
 module _ (sheet store : Words) (number : ℕ) (c : Checked) (e : c ≡ checkedOf sheet) where
   pub show-refused : (k r : ℕ) → c .verdict ≡ Refused k → r ≡ numberOf (c .verdict) → Gives sheet store number [] r
   show-refused k r v q =
-      subst (Gives sheet store number []) (sym (q ∙ ap numberOf v)) (shows-sheet sheet store number k (check-refused sheet c e k v) (check-numbered sheet c e k v))
+      subst (Gives sheet store number []) (sym (q ∙ ap numberOf v))
+      (shows-sheet sheet store number k (check-refused sheet c e k v) (check-numbered sheet c e k v))
 
   module _ (g : c .verdict ≡ Good) where
     good : sheetRefusal sheet ≡ 0

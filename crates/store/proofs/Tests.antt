@@ -2,9 +2,9 @@
 -- Assumes nothing.
 use Prim.Native.Nat.{ℕ, _+_, _-_, _<_, _≤_}
 use mathlib.Core.Path.{_≡_, sym, subst}
-use mathlib.Core.Bool.{true, false, _||_}
+use mathlib.Core.Bool.{Bool, true, false, _||_}
 use mathlib.Core.Logic.{⊎-elim}
-use mathlib.Core.List.{[], _∷_}
+use mathlib.Core.List.{List, [], _∷_}
 use native.Mathlib.Nat.{mul-zero}
 use native.Mathlib.Omega.{arith}
 use lib.Dec.{T, eqb}
@@ -12,7 +12,8 @@ use lib.ListN.{length}
 use borrow.Author.Tests.{lt-ltb, le-ltb, le-leb}
 use Rattle.lists.specs.Lists.{Words, at, all, from}
 use Rattle.lists.specs.Loops.{every}
-use Rattle.lists.proofs.Truth.{isT, F→≡, or-cases, false→F, same-test, and-fst, and-snd, and-both, mem-upTo, upTo-mem, T→≡, all-get, all-make, mem-from, from-mem, eq→eqb, eqb→≡}
+use Rattle.lists.proofs.Truth.{isT, T→≡, F→≡, false→F, same-test, or-cases, and-fst, and-snd, and-both, all-get, all-make}
+use Rattle.lists.proofs.Truth.{mem-upTo, upTo-mem, mem-from, from-mem, eq→eqb, eqb→≡}
 use Rattle.lists.proofs.Loops.{no, every-from, every-at}
 use Rattle.rows.specs.Rows.{cut, rising, noKeyTwice}
 use Rattle.rows.specs.Regions.{soundRegion, soundSide}
@@ -76,9 +77,13 @@ list-part s ws = rw (le-ltb (s .n) (s .n) (omega arith))
 
 -- The whole test, by the tests that the code makes one after the other
 module _ (s : Sheet) (ws : Words) where
-  apart-sound : T (sound s ws) → Each (eqb (length ws) (storeLength s) ∷ absentZero (s .n) ws ∷ all (soundPart s ws) (partsOf s) ∷ all (soundTable s ws) (tables s) ∷ [])
+  -- the tests behind the first
+  abbrev others : List Bool
+  others = absentZero (s .n) ws ∷ all (soundPart s ws) (partsOf s) ∷ all (soundTable s ws) (tables s) ∷ []
+
+  apart-sound : T (sound s ws) → Each (eqb (length ws) (storeLength s) ∷ others)
   unfolding sound absentZero
-  apart-sound h = apart (eqb (length ws) (storeLength s)) (absentZero (s .n) ws ∷ all (soundPart s ws) (partsOf s) ∷ all (soundTable s ws) (tables s) ∷ []) h
+  apart-sound h = apart (eqb (length ws) (storeLength s)) others h
 
   of-table : T (sound s ws) → (t : ℕ) → t < s .n → T (tableSound s ws t)
   unfolding tableSound
@@ -107,17 +112,13 @@ module _ (s : Sheet) (ws : Words) where
       back : T (sound s ws) → T (soundPart s ws (s .n))
       back h = all-get (soundPart s ws) (partsOf s) (apart-sound h .1 .1 .0) (s .n) (mem-upTo (s .n + 1) (s .n) (omega arith))
 
+      part : T (soundPart s ws (s .n)) → (j : ℕ) → j < s .n + 1 → T (soundPart s ws j)
+      part h j =
+          here-or (λ j. j < s .n + 1 → T (soundPart s ws j)) (s .n) j (λ k. h)
+          (λ d k. and-fst (soundPart s ws j) (soundTable s ws j) (table j (omega arith)))
+
       forth : T (soundPart s ws (s .n)) → T (sound s ws)
       forth h =
-          together (eqb (length ws) (storeLength s)) (absentZero (s .n) ws ∷ all (soundPart s ws) (partsOf s) ∷ all (soundTable s ws) (tables s) ∷ []) (
-            eq→eqb e,
-            (
-              isT a,
-              (
-                all-make (soundPart s ws) (partsOf s) (λ part i. let k = upTo-mem (s .n + 1) part i in
-                    here-or (λ part. part < s .n + 1 → T (soundPart s ws part)) (s .n) part (λ k. h)
-                    (λ d k. and-fst (soundPart s ws part) (soundTable s ws part) (table part (omega arith))) k),
-                (all-make (soundTable s ws) (tables s) (λ t i. and-snd (soundPart s ws t) (soundTable s ws t) (table t (upTo-mem (s .n) t i))), tt),
-              ),
-            ),
-          )
+          let parts = all-make (soundPart s ws) (partsOf s) (λ j i. part h j (upTo-mem (s .n + 1) j i)) in
+          let all-tables = all-make (soundTable s ws) (tables s) (λ t i. and-snd (soundPart s ws t) (soundTable s ws t) (table t (upTo-mem (s .n) t i))) in
+          together (eqb (length ws) (storeLength s)) others (eq→eqb e, (isT a, (parts, (all-tables, tt))))

@@ -32,7 +32,8 @@ module _ (p : Plan) (ws : Words) where
         is = λ s plan.
             let i : t < s .n = omega (arith, tables-is s p plan) in
             let lies = part-lies s p plan t (omega arith) q e in
-            f ∙ rw (words-is s t q lies ws, count-is s t q lies ws, lies .columns-is, lies .room-is, slot-table s t i) (sym (table-kept s ws t i (marked s p plan t i d)));
+            f ∙ rw (words-is s t q lies ws, count-is s t q lies ws, lies .columns-is, lies .room-is, slot-table s t i)
+            (sym (table-kept s ws t i (marked s p plan t i d)));
       }
 
   -- the tables, one after the other

@@ -105,7 +105,8 @@ module _ (s : Sheet) (good : Good s) (t : ℕ) (h : t < s .n) where
   kept-back : getD (numbersOf (λ t. tableNo (goodPlan s) t .kept) (length (goodPlan s .tables))) t 0 ≡ tablePlan s t .kept
   unfolding numbersOf
   kept-back =
-      getD-filled (λ t. tableNo (goodPlan s) t .kept) (length (goodPlan s .tables)) t 0 (replicate 8 0) (omega (arith, tables-many s)) (omega (arith, tables-many s, few))
+      let many = length (goodPlan s .tables) in
+      getD-filled (λ t. tableNo (goodPlan s) t .kept) many t 0 (replicate 8 0) (omega (arith, tables-many s)) (omega (arith, tables-many s, few))
       ∙ ap (λ p. p .kept) table-in
 
   line-back : (k : ℕ) (c d e : List ℕ) → k ≡ tablePlan s t .kept → c ≡ tablePlan s t .columns → d ≡ tablePlan s t .dep → e ≡ tablePlan s t .need

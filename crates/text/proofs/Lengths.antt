@@ -27,7 +27,8 @@ sheet-length ws h =
     let e = edgeCount ws in
     let c = conditionCount ws in
     let p = listedCount ws in
-    let k = apart (leb 1 n) (leb n 8 ∷ eqb (e + 1) n ∷ between 0 16 c ∷ between 1 16 p ∷ eqb (length ws) (4 + 2 * n + 1 + 4 * e + 4 * c + 2 * p) ∷ []) (isT h) in
+    let long = eqb (length ws) (4 + 2 * n + 1 + 4 * e + 4 * c + 2 * p) in
+    let k = apart (leb 1 n) (leb n 8 ∷ eqb (e + 1) n ∷ between 0 16 c ∷ between 1 16 p ∷ long ∷ []) (isT h) in
     omega (
       arith,
       leb→le n 8 (k .1 .0),

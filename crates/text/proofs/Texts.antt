@@ -59,7 +59,8 @@ unfolding readHand readPieces isSome isNumber value
 begin b p ps = go (isNumber (b ∷ p)) refl (all isNumber (select isSome ps)) refl
   where
     go : (t : Bool) → isNumber (b ∷ p) ≡ t → (u : Bool) → all isNumber (select isSome ps) ≡ u
-        → cond (t && u) (says (map value ((b ∷ p) ∷ select isSome ps))) isnt ≡ cond t (andThen (value (b ∷ p) ∷ []) (cond u (says (map value (select isSome ps))) isnt)) isnt
+        → cond (t && u) (says (map value ((b ∷ p) ∷ select isSome ps))) isnt
+        ≡ cond t (andThen (value (b ∷ p) ∷ []) (cond u (says (map value (select isSome ps))) isnt)) isnt
     go true e true h = refl
     go true e false h = refl
     go false e true h = refl
@@ -74,7 +75,8 @@ unfolding pieces before
 first-piece [] = ([], [], refl)
 first-piece (b ∷ bs) = go (isBlank b) (first-piece bs)
   where
-    go : (t : Bool) → (p : Text) × (ps : List Text) × (pieces bs ≡ p ∷ ps) → (p : Text) × (ps : List Text) × (cond t ([] ∷ pieces bs) (before b (pieces bs)) ≡ p ∷ ps)
+    go : (t : Bool) → (p : Text) × (ps : List Text) × (pieces bs ≡ p ∷ ps)
+        → (p : Text) × (ps : List Text) × (cond t ([] ∷ pieces bs) (before b (pieces bs)) ≡ p ∷ ps)
     go true q = ([], pieces bs, refl)
     go false (p, ps, e) = (b ∷ p, ps, ap (before b) e)
 
@@ -94,7 +96,8 @@ unfolding readFrom readHand readPieces pieces before onward isSome
 from-pieces true v [] h z = passed (ltb v (2 ^ 64)) (says (v ∷ [])) isnt (lt-ltb v (2 ^ 64) h)
 from-pieces false v [] h z = refl
 from-pieces begun v (b ∷ bs) h z =
-    blank (isBlank b) (from-pieces false 0 bs (omega arith) (λ e. refl)) (λ l. from-pieces true (v * 10 + (b - 48)) bs l (λ e. let z : _≡_ {A = ℕ} 0 1 = cc in absurd (omega arith)))
+    blank (isBlank b) (from-pieces false 0 bs (omega arith) (λ e. refl))
+    (λ l. from-pieces true (v * 10 + (b - 48)) bs l (λ e. let z : _≡_ {A = ℕ} 0 1 = cc in absurd (omega arith)))
   where
     w : ℕ
     w = v * 10 + (b - 48)
@@ -105,7 +108,8 @@ from-pieces begun v (b ∷ bs) h z =
     large p ps e ih false l = failing _ _ _ (too-large (all isDigit p) (onward w p) w (onward-le p w) l)
 
     digit : (p : Text) (ps : List Text) → pieces bs ≡ p ∷ ps → (w < 2 ^ 64 → readFrom true w bs ≡ readHand true w (pieces bs)) → (d : Bool)
-        → cond d (cond (ltb w (2 ^ 64)) (readFrom true w bs) isnt) isnt ≡ cond (d && all isDigit p && ltb (onward w p) (2 ^ 64)) (andThen (onward w p ∷ []) (readPieces ps)) isnt
+        → cond d (cond (ltb w (2 ^ 64)) (readFrom true w bs) isnt) isnt
+        ≡ cond (d && all isDigit p && ltb (onward w p) (2 ^ 64)) (andThen (onward w p ∷ []) (readPieces ps)) isnt
     digit p ps e ih true = large p ps e ih (ltb w (2 ^ 64)) refl
     digit p ps e ih false = refl
 
@@ -222,7 +226,8 @@ ends (b ∷ bs) r p =
     long : Reading
     long = firstWords (andThen (held r) (readFrom true w bs))
 
-    blank-ends : Blanked r (afterBlank r) → endsAs (afterBlank r) bs ≡ firstWords (andThen (held (afterBlank r)) (readFrom (afterBlank r .begun) (afterBlank r .number) bs))
+    blank-ends : Blanked r (afterBlank r)
+        → endsAs (afterBlank r) bs ≡ firstWords (andThen (held (afterBlank r)) (readFrom (afterBlank r .begun) (afterBlank r .number) bs))
         → endsAs (afterBlank r) bs ≡ firstWords (andThen (held r) (andThen (inHand (r .begun) (r .number)) (readFrom false 0 bs)))
     blank-ends q ih =
         ih

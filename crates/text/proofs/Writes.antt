@@ -49,7 +49,8 @@ put-more s s′ bytes at i h w =
 pub put-none : (s : List ℕ) (at : ℕ) → Wrote s at [] s (at + 0)
 put-none s at = record { new-is = refl; end-is = refl }
 
-pub put-all : (s s′ : List ℕ) (bytes : Text) (at i : ℕ) → length bytes ≤ i → Wrote s at (take i bytes) s′ (at + i) → i ≤ length bytes → Wrote s at bytes s′ (at + i)
+pub put-all : (s s′ : List ℕ) (bytes : Text) (at i : ℕ) → length bytes ≤ i → Wrote s at (take i bytes) s′ (at + i) → i ≤ length bytes
+    → Wrote s at bytes s′ (at + i)
 put-all s s′ bytes at i h w l = rw (take-all i bytes h) at w
 
 -- a number's digits
@@ -81,7 +82,9 @@ digits-some k n = go (ltb n 10)
 -- one digit more than are needed changes nothing
 digits-enough : (k n : ℕ) → n < 10 ^ suc k → digits (suc (suc k)) n ≡ digits (suc k) n
 digits-enough zero n h = digits-one 1 n h ∙ sym (digits-one 0 n h)
-digits-enough (suc k) n h = go (ltb n 10) refl (digits-enough k (n / 10) (div-lt-iff-lt-mul {k = 10} {x = n} {y = 10 ^ suc k} (omega arith) .1 (rw pow-suc at h)))
+digits-enough (suc k) n h =
+    let tenth : n / 10 < 10 ^ suc k = div-lt-iff-lt-mul {k = 10} {x = n} {y = 10 ^ suc k} (omega arith) .1 (rw pow-suc at h) in
+    go (ltb n 10) refl (digits-enough k (n / 10) tenth)
   where
     go : (t : Bool) → ltb n 10 ≡ t → digits (suc (suc k)) (n / 10) ≡ digits (suc k) (n / 10) → digits (suc (suc (suc k))) n ≡ digits (suc (suc k)) n
     go true l e = let m : n < 10 = ltb-true n 10 l in digits-one (suc (suc k)) n m ∙ sym (digits-one (suc k) n m)
@@ -118,7 +121,8 @@ module _ (s s′ : List ℕ) (at n end : ℕ) where
   wrote-digits : 10 ≤ n → n < 2 ^ 64 → Wrote s at (decimal (n / 10)) s′ end → Wrote s at (decimal n) (set s′ end (48 + n % 10)) (end + 1)
   wrote-digits h l w = rw (decimal-digits n h l) (wrote-then w (wrote-byte s′ end (48 + n % 10)))
 
-  pub wrote-number : 10 ≤ n → n < 2 ^ 64 → Wrote s at (decimal (n / 10)) s′ end → Wrote s at (decimal n) (set s′ end (48 + n % 10)) (end + 1) × (end + 1 ≤ at + 20)
+  pub wrote-number : 10 ≤ n → n < 2 ^ 64 → Wrote s at (decimal (n / 10)) s′ end
+      → Wrote s at (decimal n) (set s′ end (48 + n % 10)) (end + 1) × (end + 1 ≤ at + 20)
   wrote-number h l w = (wrote-digits h l w, omega (arith, w .end-is, tens-short n h l))
 
   pub tens-fit : 10 ≤ n → n < 2 ^ 64 → Wrote s at (decimal (n / 10)) s′ end → at + 20 ≤ length s → end < length s′

@@ -7,7 +7,8 @@ use lib.Dec.{eqb→eq, eqb}
 use Rattle.lists.proofs.Truth.{sameLists→≡}
 use Rattle.rows.specs.Rows.{sameRow, cut}
 use Rattle.meaning.specs.Sheet.{sheetOf, goodCounts, goodEdge, goodCondition, goodListed, goodWords, goodTree, sheetRefusal}
-use Rattle.meaning.specs.Plan.{root, edgeInto, others, dep, depPlus, need, kept, isShown, shown, columns, size, start, storeLength, inOrder, tablePlan, goodPlan, plan}
+use Rattle.meaning.specs.Plan.{root, edgeInto, others, dep, depPlus, need, kept, isShown, shown, columns, size, start, storeLength}
+use Rattle.meaning.specs.Plan.{inOrder, tablePlan, goodPlan, plan}
 use Rattle.text.specs.Ascii.{ascii}
 use Rattle.text.specs.Reading.{Text, isBlank, isDigit, onward, value, before, pieces, isSome, decimals, isNumber, readText}
 use Rattle.text.specs.Printing.{digits, decimal, commas, parted, setText, setsText, lineText, tableText, tablesText, headText, refusedText, planText}
@@ -29,7 +30,8 @@ lines =
     prints "root 0 store 97\n0 kept 0 cols - dep 1,3 need -\n1 kept 1 cols 0,1 dep 2 need -\n2 kept 1 cols 0,2 dep - need 1\n3 kept 1 cols 0,2 dep - need -\n")
     -- case 2: with 3 0 unlisted
     ∷ ("4 3 2 4  4 3 3 3\n0 2 1 1  1 1 2 1  0 1 3 1\n1 2 7 7  2 1 20 29\n0 0  1 0  2 2  3 2\n8 8 8 8 8\n"
-    prints "root 0 store 113\n0 kept 1 cols 0,1,2 dep 1,3 need -\n1 kept 1 cols 0,1 dep 2 need -\n2 kept 1 cols 0,2 dep - need 1\n3 kept 1 cols 0,2 dep - need 0\n")
+    prints
+    "root 0 store 113\n0 kept 1 cols 0,1,2 dep 1,3 need -\n1 kept 1 cols 0,1 dep 2 need -\n2 kept 1 cols 0,2 dep - need 1\n3 kept 1 cols 0,2 dep - need 0\n")
     -- refusals 1 to 3: two edges for two tables; a promise of 2; an edge from a table to itself
     ∷ ("2 2 0 1  2 1  0 1 1 1  0 1 1 1  0 0  4 4 4" prints "refused 1\n")
     ∷ ("2 1 0 1  2 1  0 1 1 2  0 0  4 4 4" prints "refused 2\n")
@@ -56,5 +58,9 @@ want l = ascii (l .prints)
 
 -- antt computes a test, and the test's law turns it into the equation
 pub table : map got lines ≡ map want lines
-unfolding cut sheetOf goodCounts goodEdge goodCondition goodListed goodWords goodTree sheetRefusal root edgeInto others dep depPlus need kept isShown shown columns size start storeLength inOrder tablePlan goodPlan plan isBlank isDigit onward value before pieces isSome decimals isNumber readText digits decimal commas parted setText setsText lineText tableText tablesText headText refusedText planText planOfText printed
+unfolding
+    cut sheetOf goodCounts goodEdge goodCondition goodListed goodWords goodTree sheetRefusal root edgeInto others dep
+    depPlus need kept isShown shown columns size start storeLength inOrder tablePlan goodPlan plan isBlank isDigit
+    onward value before pieces isSome decimals isNumber readText digits decimal commas parted setText setsText lineText
+    tableText tablesText headText refusedText planText planOfText printed
 table = sameLists→≡ sameRow (sameLists→≡ eqb eqb→eq) (map got lines) (map want lines) tt

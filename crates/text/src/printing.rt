@@ -5,10 +5,10 @@ ghost use mathlib.Core.List.{_++_};
 ghost use Prim.Native.Nat.{ℕ, _+_, _*_, _≤_, _<_};
 ghost use lib.Dec.{ltb};
 ghost use lib.ListN.{length};
-ghost use Rattle.text.specs.Printing.{decimal, memberText, setText, setsText, lineText, headText, refusedText, linesUpTo, planText};
+ghost use Rattle.text.specs.Printing.{decimal, memberText, setText, headText, refusedText, planText};
 ghost use Rattle.meaning.specs.Plan.{plan};
 ghost use Rattle.layout.specs.Marks.{markedIn};
-ghost use Rattle.text.specs.Laid.{lineOf, answerText};
+ghost use Rattle.text.specs.Laid.{setsIn, lineIn, linesIn, answerText};
 ghost use Rattle.text.specs.Writing.{Wrote};
 
 // Writes the bytes from `at` on, and answers where they end.
@@ -41,7 +41,8 @@ fn put_number(n: u64, out: &mut [u8], at: usize) -> usize
 
 // Writes one number of a set that begins at `from`: after a comma, unless it is the first.
 fn put_member(x: u8, out: &mut [u8], from: usize, at: usize) -> usize
-    requires { ⌜ (x < 10) × (at + 2 ≤ length (now out)) ⌝ }
+    requires { ⌜ x < 10 ⌝ }
+    requires { ⌜ at + 2 ≤ length (now out) ⌝ }
     ensures { λ r. ⌜ Wrote (now (out .entry)) at (memberText (ltb from at) x) (now (out .exit)) r ⌝ }
 {
     if from < at {
@@ -55,7 +56,8 @@ fn put_member(x: u8, out: &mut [u8], from: usize, at: usize) -> usize
 
 // Writes the numbers that row t of the marks has, or `-` for none.
 fn put_set(marks: &[u64], t: usize, out: &mut [u8], at: usize) -> usize
-    requires { ⌜ (8 * t + 8 ≤ length (now marks)) × (at + 16 ≤ length (now out)) ⌝ }
+    requires { ⌜ 8 * t + 8 ≤ length (now marks) ⌝ }
+    requires { ⌜ at + 16 ≤ length (now out) ⌝ }
     ensures { λ r. ⌜ Wrote (now (out .entry)) at (setText (markedIn (now (marks .entry)) t)) (now (out .exit)) r ⌝ }
     ensures { λ r. ⌜ r ≤ at + 16 ⌝ }
 {
@@ -77,7 +79,8 @@ fn put_set(marks: &[u64], t: usize, out: &mut [u8], at: usize) -> usize
 
 // Writes what a number is called, and the number.
 fn put_field(name: &[u8], n: u64, out: &mut [u8], at: usize) -> usize
-    requires { ⌜ (length (now name) ≤ 8) × (at + 28 ≤ length (now out)) ⌝ }
+    requires { ⌜ length (now name) ≤ 8 ⌝ }
+    requires { ⌜ at + 28 ≤ length (now out) ⌝ }
     ensures { λ r. ⌜ Wrote (now (out .entry)) at (now (name .entry) ++ decimal n) (now (out .exit)) r ⌝ }
     ensures { λ r. ⌜ r ≤ at + 28 ⌝ }
 {
@@ -87,7 +90,9 @@ fn put_field(name: &[u8], n: u64, out: &mut [u8], at: usize) -> usize
 
 // Writes what a set is called, and the set.
 fn put_named(name: &[u8], marks: &[u64], t: usize, out: &mut [u8], at: usize) -> usize
-    requires { ⌜ (8 * t + 8 ≤ length (now marks)) × ((length (now name) ≤ 6) × (at + 22 ≤ length (now out))) ⌝ }
+    requires { ⌜ 8 * t + 8 ≤ length (now marks) ⌝ }
+    requires { ⌜ length (now name) ≤ 6 ⌝ }
+    requires { ⌜ at + 22 ≤ length (now out) ⌝ }
     ensures { λ r. ⌜ Wrote (now (out .entry)) at (now (name .entry) ++ setText (markedIn (now (marks .entry)) t)) (now (out .exit)) r ⌝ }
     ensures { λ r. ⌜ r ≤ at + 22 ⌝ }
 {
@@ -103,8 +108,11 @@ fn put_sets(
     out: &mut [u8],
     at: usize,
 ) -> usize
-    requires { ⌜ (8 * t + 8 ≤ length (now columns)) × ((8 * t + 8 ≤ length (now dep)) × ((8 * t + 8 ≤ length (now need)) × (at + 66 ≤ length (now out)))) ⌝ }
-    ensures { λ r. ⌜ Wrote (now (out .entry)) at (setsText (markedIn (now (columns .entry)) t) (markedIn (now (dep .entry)) t) (markedIn (now (need .entry)) t)) (now (out .exit)) r ⌝ }
+    requires { ⌜ 8 * t + 8 ≤ length (now columns) ⌝ }
+    requires { ⌜ 8 * t + 8 ≤ length (now dep) ⌝ }
+    requires { ⌜ 8 * t + 8 ≤ length (now need) ⌝ }
+    requires { ⌜ at + 66 ≤ length (now out) ⌝ }
+    ensures { λ r. ⌜ Wrote (now (out .entry)) at (setsIn (now (columns .entry)) (now (dep .entry)) (now (need .entry)) t) (now (out .exit)) r ⌝ }
     ensures { λ r. ⌜ r ≤ at + 66 ⌝ }
 {
     let a = put_named(b" cols ", columns, t, out, at);
@@ -122,8 +130,11 @@ fn put_line(
     out: &mut [u8],
     at: usize,
 ) -> usize
-    requires { ⌜ (8 * t + 8 ≤ length (now columns)) × ((8 * t + 8 ≤ length (now dep)) × ((8 * t + 8 ≤ length (now need)) × (at + 115 ≤ length (now out)))) ⌝ }
-    ensures { λ r. ⌜ Wrote (now (out .entry)) at (lineText t kept (markedIn (now (columns .entry)) t) (markedIn (now (dep .entry)) t) (markedIn (now (need .entry)) t)) (now (out .exit)) r ⌝ }
+    requires { ⌜ 8 * t + 8 ≤ length (now columns) ⌝ }
+    requires { ⌜ 8 * t + 8 ≤ length (now dep) ⌝ }
+    requires { ⌜ 8 * t + 8 ≤ length (now need) ⌝ }
+    requires { ⌜ at + 115 ≤ length (now out) ⌝ }
+    ensures { λ r. ⌜ Wrote (now (out .entry)) at (lineIn t kept (now (columns .entry)) (now (dep .entry)) (now (need .entry))) (now (out .exit)) r ⌝ }
     ensures { λ r. ⌜ r ≤ at + 115 ⌝ }
 {
     let a = put_number(t as u64, out, at);
@@ -161,8 +172,13 @@ fn put_lines(
     out: &mut [u8],
     at: usize,
 ) -> usize
-    requires { ⌜ (n ≤ length (now kept)) × ((8 * n ≤ length (now columns)) × ((8 * n ≤ length (now dep)) × ((8 * n ≤ length (now need)) × (at + 115 * n ≤ length (now out))))) ⌝ }
-    ensures { λ r. ⌜ Wrote (now (out .entry)) at (linesUpTo (lineOf (now (kept .entry)) (now (columns .entry)) (now (dep .entry)) (now (need .entry))) n) (now (out .exit)) r ⌝ }
+    requires { ⌜ n ≤ length (now kept) ⌝ }
+    requires { ⌜ 8 * n ≤ length (now columns) ⌝ }
+    requires { ⌜ 8 * n ≤ length (now dep) ⌝ }
+    requires { ⌜ 8 * n ≤ length (now need) ⌝ }
+    requires { ⌜ at + 115 * n ≤ length (now out) ⌝ }
+    ensures { λ r.
+        ⌜ Wrote (now (out .entry)) at (linesIn (now (kept .entry)) (now (columns .entry)) (now (dep .entry)) (now (need .entry)) n) (now (out .exit)) r ⌝ }
     ensures { λ r. ⌜ r ≤ at + 115 * n ⌝ }
 {
     let mut end = at;
@@ -176,7 +192,8 @@ fn put_lines(
 
 // Writes the text of the plan call's answer: 57 bytes at most, and 115 for each of eight tables.
 fn put_plan(a: PlanAnswer, out: &mut [u8]) -> usize
-    requires { ⌜ (a .tables ≤ 8) × (1024 ≤ length (now out)) ⌝ }
+    requires { ⌜ a .tables ≤ 8 ⌝ }
+    requires { ⌜ 1024 ≤ length (now out) ⌝ }
     ensures { λ r. ⌜ Wrote (now (out .entry)) 0 (answerText a) (now (out .exit)) r ⌝ }
     ensures { λ r. ⌜ r ≤ 1024 ⌝ }
 {

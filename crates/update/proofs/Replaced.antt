@@ -20,16 +20,16 @@ use Rattle.walks.proofs.Marks.{length-altered}
 use Rattle.effects.specs.Applied.{replacedRows}
 use Rattle.effects.proofs.Marking.{replaced-walks, shows-walks}
 use Rattle.layout.specs.declared.Plan.{Plan}
-use Rattle.columns.specs.Gives.{gives, given}
+use Rattle.list_part.specs.Gives.{gives, given}
 use Rattle.ways.specs.declared.Route.{Route}
 use Rattle.ways.specs.Climbing.{ByKey}
 use Rattle.store.specs.declared.Part.{Part}
 use Rattle.store.specs.Parts.{stopOf, wordsIn, countIn, rowsIn, Kept, Wrote}
 use Rattle.store.proofs.Plans.{marked, unmarked}
-use Rattle.listpart.specs.Loose.{Loose, looseRows, Behind}
-use Rattle.listpart.proofs.Rewrites.{behind-loose, behind-settled}
-use Rattle.listpart.proofs.Lists.{rows-many}
-use Rattle.listpart.proofs.Altered.{behind-given}
+use Rattle.list_part.specs.Loose.{Loose, looseRows, Behind}
+use Rattle.list_part.proofs.Rewrites.{behind-loose, behind-settled}
+use Rattle.list_part.proofs.Lists.{rows-many}
+use Rattle.list_part.proofs.Altered.{behind-given}
 use Rattle.routes.specs.Ready.{Ready}
 use Rattle.written.proofs.Halves.{ready-good}
 use Rattle.taken.specs.declared.Taken.{Taken}

@@ -22,7 +22,7 @@ use Rattle.effects.specs.Applied.{applied, replacedRows}
 use Rattle.effects.proofs.Rows.{side-there}
 use Rattle.effects.proofs.Updates.{update-8-side, update-none, update-8-shown, update-8-list, update-done}
 use Rattle.layout.specs.declared.Plan.{Plan}
-use Rattle.columns.specs.Gives.{gives}
+use Rattle.list_part.specs.Gives.{gives}
 use Rattle.ways.specs.declared.Route.{Route}
 use Rattle.ways.specs.Grounds.{Lent}
 use Rattle.store.specs.declared.Part.{Part}
@@ -30,7 +30,7 @@ use Rattle.store.specs.declared.Answer.the-variants.{Done, Refused}
 use Rattle.store.specs.Parts.{rowsIn, Lies, Wrote}
 use Rattle.store.proofs.Answers.{says-refused}
 use Rattle.store.proofs.Lying.{rows-is}
-use Rattle.sides.specs.Sides.{Replaceable, Sided}
+use Rattle.side_table.specs.Sides.{Replaceable, Sided}
 use Rattle.routes.specs.Ready.{Ready}
 use Rattle.written.proofs.Answers.{says-nothing, says-all}
 use Rattle.written.proofs.Halves.{ready-good, ready-table, half-side, both-words}

@@ -12,7 +12,7 @@ ghost use Rattle.meaning.specs.Sheet.{sheetOf, listedCount};
 ghost use Rattle.sheet.specs.Rules.{Rules};
 ghost use Rattle.walks.specs.Marks.{altered, isMarked};
 ghost use Rattle.walks.proofs.Updates.{Tied};
-ghost use Rattle.columns.specs.Gives.{gives, Fits};
+ghost use Rattle.list_part.specs.Gives.{gives, Fits};
 ghost use Rattle.ways.specs.Grounds.{Lent};
 ghost use Rattle.store.specs.Parts.{countIn, rowsIn, Lies, Kept, Wrote};
 ghost use Rattle.routes.specs.Ready.{Ready};
@@ -65,8 +65,8 @@ fn replace_rows(
 {
     let slot = list.slot;
     let count = store[slot] as usize;
-    listpart::give_rows(sheet, store, list, marks, table as u64, row);
-    listpart::settle_rows(store, list, count, k);
+    list_part::give_rows(sheet, store, list, marks, table as u64, row);
+    list_part::settle_rows(store, list, count, k);
 }
 
 // Old becomes new in its table, if it is qualified: the side row is replaced, and the list rows of the ways through it, or found by its key.
@@ -86,7 +86,7 @@ pub fn update(
     ensures { λ a. ⌜ Updates (now (sheet .entry)) (now (store .entry)) table (now (old .entry)) (now (new .entry)) a (now (store .exit)) ⌝ }
 {
     let qualified = ways::is_qualified(sheet, route, store, table, old);
-    if !sides::old_row(sheet, plan, store, table, old, qualified) {
+    if !side_table::old_row(sheet, plan, store, table, old, qualified) {
         return Answer::Refused(8);
     }
     if !qualified {
@@ -99,6 +99,6 @@ pub fn update(
         return Answer::Refused(8);
     };
     replace_rows(sheet, store, list, &marks, k, table, new);
-    sides::replace_side(sheet, plan, store, table, old, new);
+    side_table::replace_side(sheet, plan, store, table, old, new);
     Answer::Done(k as u64, k as u64)
 }

@@ -24,7 +24,7 @@ use Rattle.store.specs.Parts.{Lies, Wrote}
 use Rattle.store.specs.Plans.{partOf}
 use Rattle.store.proofs.Lying.{wrote-stands}
 use Rattle.store.proofs.Plans.{list-lies}
-use Rattle.sides.specs.Sides.{Modelled, Sided}
+use Rattle.side_table.specs.Sides.{Modelled, Sided}
 use Rattle.routes.specs.Ready.{Ready}
 
 module _ {ws store : Words} {plan : Plan} {p : Route} (rd : Ready ws store plan p) where

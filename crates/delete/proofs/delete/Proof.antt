@@ -1,4 +1,4 @@
-use Rattle.listpart.proofs.Lists.{list-kept}
+use Rattle.list_part.proofs.Lists.{list-kept}
 use Rattle.taken.proofs.Lists.{marks-enough}
 use mathlib.Core.Path.{refl}
 use Rattle.written.proofs.Halves.{ready-good, ready-ground, ready-list, ready-table, ready-tables, half-modelled}
@@ -8,8 +8,8 @@ use Rattle.delete.proofs.delete.Statement.{statement}
 use Rattle.delete.proofs.delete.Tie as tie
 use Rattle.delete.proofs.delete.Reads as reads
 use Rattle.delete.proofs.delete.Lts as lts
-use Rattle.sides.proofs.old_row.Reads as old-row-reads
-use Rattle.sides.proofs.take_side.Reads as take-side-reads
+use Rattle.side_table.proofs.old_row.Reads as old-row-reads
+use Rattle.side_table.proofs.take_side.Reads as take-side-reads
 use Rattle.store.proofs.part_of.Reads as part-of-reads
 use Rattle.store.proofs.take_marked.Reads as take-marked-reads
 use Rattle.taken.proofs.mark_ways.Reads as mark-ways-reads

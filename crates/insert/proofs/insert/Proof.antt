@@ -1,4 +1,4 @@
-use Rattle.listpart.proofs.Lists.{list-room}
+use Rattle.list_part.proofs.Lists.{list-room}
 use Rattle.written.proofs.Halves.{ready-good, ready-ground, ready-list, ready-table, half-modelled}
 use Rattle.added.proofs.Putting.{list-within}
 use Rattle.insert.proofs.Inserting.{inserts-8, inserts-none, inserts-9-side, inserts-9-list, adding, half-room, inserts-done}
@@ -10,9 +10,9 @@ use Rattle.insert.proofs.insert.Reads as reads
 use Rattle.insert.proofs.insert.Lts as lts
 use Rattle.added.proofs.add_ways.Reads as add-ways-reads
 use Rattle.added.proofs.count_ways.Reads as count-ways-reads
-use Rattle.sides.proofs.has_room.Reads as has-room-reads
-use Rattle.sides.proofs.new_key.Reads as new-key-reads
-use Rattle.sides.proofs.put_side.Reads as put-side-reads
+use Rattle.side_table.proofs.has_room.Reads as has-room-reads
+use Rattle.side_table.proofs.new_key.Reads as new-key-reads
+use Rattle.side_table.proofs.put_side.Reads as put-side-reads
 use Rattle.store.proofs.part_of.Reads as part-of-reads
 use Rattle.ways.proofs.is_qualified.Reads as is-qualified-reads
 

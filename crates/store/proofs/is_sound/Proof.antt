@@ -29,10 +29,18 @@ part-of-requires : tie.Need-part-of-requires
 part-of-requires c κs = (omega arith, few _ (c .before .before .before .before .before .before .before .pre))
 
 part-sound-requires : tie.Need-part-sound-requires
-part-sound-requires c κs = (within-store _ (c .before .before .before .before .before .before .before .before .pre) _ _ _ (omega arith) (c .part-of .ensures) (c .before .before .before .before .before .if1 .left), λ keyed. absurd (false≢true keyed))
+part-sound-requires c κs =
+    let at-length = c .before .before .before .before .before in
+    let of = at-length .before .before .before .pre in
+    (within-store _ of _ _ _ (omega arith) (c .part-of .ensures) (at-length .if1 .left), λ keyed. absurd (false≢true keyed))
 
 returns-4 : tie.Need-returns-4
-returns-4 c = list-decides _ _ _ _ _ (c .before .before .before .before .before .before .if1 .left) (sym (c .before .before .before .before .before .absent-zero .ensures) ∙ not-false _ (c .before .before .before .before .if2 .left)) (c .before .before .before .sides-sound .ensures) (not-false _ (c .before .before .if3 .left)) (c .before .part-of .ensures) (c .part-sound .ensures)
+returns-4 c =
+    let at-sides = c .before .before .before in
+    let at-absent = at-sides .before .before in
+    let absent = sym (at-absent .absent-zero .ensures) ∙ not-false _ (at-sides .before .if2 .left) in
+    let sides = not-false _ (c .before .before .if3 .left) in
+    list-decides _ _ _ _ _ (at-absent .before .if1 .left) absent (at-sides .sides-sound .ensures) sides (c .before .part-of .ensures) (c .part-sound .ensures)
 
 pub is-sound-spec : {M : Type 1} → statement M
 is-sound-spec =

@@ -32,7 +32,9 @@ part-mark-end c = search needs
 
 mark-requires : tie.Need-mark-requires
 unfolding rowsIn wordsIn part
-mark-requires c κs = let st = c .before .before .before .before .before .before .before in (st .pre .0 .region .fits, (st .pre .1 .0, (st .pre .0 .region .up, st .pre .1 .1)))
+mark-requires c κs =
+    let pre = c .before .before .before .before .before .before .before .pre in
+    (pre .0 .region .fits, (pre .1 .0, (pre .0 .region .up, pre .1 .1)))
 
 same-length : tie.Need-same-length
 same-length c = search needs

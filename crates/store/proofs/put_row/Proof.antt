@@ -33,7 +33,9 @@ part-put-end c = search needs
 
 put-requires : tie.Need-put-requires
 unfolding wordsIn part
-put-requires c κs = let st = c .before .before .before .before .before in (st .pre .0 .region, (one-more _ _ (st .pre .0) (st .pre .1 .0), st .pre .1 .1))
+put-requires c κs =
+    let pre = c .before .before .before .before .before .pre in
+    (pre .0 .region, (one-more _ _ (pre .0) (pre .1 .0), pre .1 .1))
 
 add-store : tie.Need-add-store
 add-store c = search needs
@@ -49,7 +51,9 @@ same-length c = search needs
 
 returns : tie.Need-returns
 unfolding rowsIn wordsIn part
-returns c = let st = c .before .before .before .before .before .before .before .before in wrote _ _ (st .pre .0) _ _ _ (c .before .before .put .ensures) (c .before .before .put .kept .0)
+returns c =
+    let call = c .before .before .put in
+    wrote _ _ (c .before .before .before .before .before .before .before .before .pre .0 .within) _ _ _ (call .ensures) (call .kept .0)
 
 pub put-row-spec : {M : Type 1} → statement M
 put-row-spec =

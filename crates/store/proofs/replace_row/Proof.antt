@@ -33,14 +33,18 @@ part-replace-end c = search needs
 
 replace-requires : tie.Need-replace-requires
 unfolding rowsIn wordsIn part
-replace-requires c κs = let st = c .before .before .before .before .before in (st .pre .0 .region, (st .pre .1 .0, (st .pre .1 .1 .0, st .pre .1 .1 .1)))
+replace-requires c κs =
+    let pre = c .before .before .before .before .before .pre in
+    (pre .0 .region, (pre .1 .0, (pre .1 .1 .0, pre .1 .1 .1)))
 
 same-length : tie.Need-same-length
 same-length c = search needs
 
 returns : tie.Need-returns
 unfolding rowsIn wordsIn part
-returns c = let st = c .before .before .before .before .before .before .before .before in wrote-as-many _ _ (st .pre .0) _ _ (c .before .before .replace .ensures) (c .before .before .replace .kept .0)
+returns c =
+    let call = c .before .before .replace in
+    wrote-as-many _ _ (c .before .before .before .before .before .before .before .before .pre .0 .within) _ _ (call .ensures) (call .kept .0)
 
 pub replace-row-spec : {M : Type 1} → statement M
 replace-row-spec =

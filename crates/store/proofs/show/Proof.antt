@@ -42,7 +42,8 @@ returns-2 : tie.Need-returns-2
 returns-2 c =
     let at-length = c .before in
     let at-good = at-length .before .before in
-    none-back (λ q. omega arith) refl (show-length _ _ _ _ (at-good .before .before .before .check .ensures) (at-good .enum-told .given .1) (at-length .if1 .taken))
+    let checked = at-good .before .before .before .check .ensures in
+    none-back (λ q. omega arith) refl (show-length _ _ _ _ checked (at-good .enum-told .given .1) (at-length .if1 .taken))
 
 slice-aggregate-result-3 : tie.Need-slice-aggregate-result-3
 slice-aggregate-result-3 c = search needs
@@ -56,7 +57,9 @@ returns-3 c =
     (show-number _ _ _ _ (at-good .before .before .before .check .ensures) (at-good .enum-told .given .1) (at-length .if1 .left) (at-number .if2 .taken))
 
 is-sound-requires : tie.Need-is-sound-requires
-is-sound-requires c κs = check-of _ _ (c .before .before .before .before .before .before .check .ensures) (c .before .before .before .enum-told .given .1)
+is-sound-requires c κs =
+    let at-good = c .before .before .before in
+    check-of _ _ (at-good .before .before .before .check .ensures) (at-good .enum-told .given .1)
 
 slice-aggregate-result-4 : tie.Need-slice-aggregate-result-4
 slice-aggregate-result-4 c = search needs
@@ -72,7 +75,9 @@ returns-4 c =
     (at-sound .before .is-sound .ensures) (not-true _ (at-sound .if3 .taken)))
 
 part-of-requires : tie.Need-part-of-requires
-part-of-requires c κs = (c .before .before .if2 .left, few _ (check-of _ _ (c .before .before .before .before .before .before .before .before .check .ensures) (c .before .before .before .before .before .enum-told .given .1)))
+part-of-requires c κs =
+    let at-good = c .before .before .before .before .before in
+    (c .before .before .if2 .left, few _ (check-of _ _ (at-good .before .before .before .check .ensures) (at-good .enum-told .given .1)))
 
 -- the part that is shown
 shown : (c : tie.After-part-of)
@@ -90,7 +95,9 @@ mul-count : tie.Need-mul-count
 mul-count c = omega (arith, shown c .kept .within .counted)
 
 shared-slice-read-count : tie.Need-shared-slice-read-count
-shared-slice-read-count c = omega (arith, shown (c .before) .kept .within .counted, shown (c .before) .kept .within .behind, shown (c .before) .kept .within .ends)
+shared-slice-read-count c =
+    let k = shown (c .before) .kept .within in
+    omega (arith, k .counted, k .behind, k .ends)
 
 mul-to : tie.Need-mul-to
 mul-to c = let k = shown (c .before .before) .kept in omega (arith, stretch-ends _ _ k, k .within .ends)

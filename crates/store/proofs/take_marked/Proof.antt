@@ -33,7 +33,9 @@ part-take-marked-end c = search needs
 
 take-marked-requires : tie.Need-take-marked-requires
 unfolding wordsIn part
-take-marked-requires c κs = let st = c .before .before .before .before .before in (st .pre .0 .region, st .pre .1)
+take-marked-requires c κs =
+    let pre = c .before .before .before .before .before .pre in
+    (pre .0 .region, pre .1)
 
 mul-store : tie.Need-mul-store
 mul-store c = search needs
@@ -46,7 +48,9 @@ same-length c = search needs
 
 returns : tie.Need-returns
 unfolding rowsIn wordsIn part
-returns c = let st = c .before .before .before .before .before .before .before .before in wrote _ _ (st .pre .0) _ _ _ (c .before .before .take-marked .ensures) (c .before .before .take-marked .kept .0)
+returns c =
+    let call = c .before .before .take-marked in
+    wrote _ _ (c .before .before .before .before .before .before .before .before .pre .0 .within) _ _ _ (call .ensures) (call .kept .0)
 
 pub take-marked-spec : {M : Type 1} → statement M
 take-marked-spec =

@@ -33,7 +33,9 @@ part-take-end c = search needs
 
 take-requires : tie.Need-take-requires
 unfolding wordsIn part
-take-requires c κs = let st = c .before .before .before .before .before in (st .pre .0 .region, st .pre .1)
+take-requires c κs =
+    let pre = c .before .before .before .before .before .pre in
+    (pre .0 .region, pre .1)
 
 mul-store : tie.Need-mul-store
 mul-store c = search needs
@@ -46,7 +48,9 @@ same-length c = search needs
 
 returns : tie.Need-returns
 unfolding rowsIn wordsIn part
-returns c = let st = c .before .before .before .before .before .before .before .before in wrote _ _ (st .pre .0) _ _ _ (c .before .before .take .ensures) (c .before .before .take .kept .0)
+returns c =
+    let call = c .before .before .take in
+    wrote _ _ (c .before .before .before .before .before .before .before .before .pre .0 .within) _ _ _ (call .ensures) (call .kept .0)
 
 pub take-row-spec : {M : Type 1} → statement M
 take-row-spec =

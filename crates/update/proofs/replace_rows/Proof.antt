@@ -5,8 +5,8 @@ use Rattle.update.proofs.replace_rows.Statement.{statement}
 use Rattle.update.proofs.replace_rows.Tie as tie
 use Rattle.update.proofs.replace_rows.Reads as reads
 use Rattle.update.proofs.replace_rows.Lts as lts
-use Rattle.listpart.proofs.give_rows.Reads as give-rows-reads
-use Rattle.listpart.proofs.settle_rows.Reads as settle-rows-reads
+use Rattle.list_part.proofs.give_rows.Reads as give-rows-reads
+use Rattle.list_part.proofs.settle_rows.Reads as settle-rows-reads
 
 -- src/lib.rt:75:17
 mul-count : tie.Need-mul-count

@@ -1,6 +1,6 @@
 use mathlib.Core.Path.{refl}
 use Rattle.written.proofs.Halves.{ready-good, ready-ground, ready-list, ready-table, ready-tables, half-modelled}
-use Rattle.listpart.proofs.Lists.{list-columns, list-kept, list-room}
+use Rattle.list_part.proofs.Lists.{list-columns, list-kept, list-room}
 use Rattle.taken.proofs.Lists.{marks-enough}
 use Rattle.taken.proofs.Finding.{fits-lent}
 use Rattle.update.proofs.Updating.{updates-8-side, updates-none, updates-8-list, replaceable, updates-done}
@@ -11,9 +11,9 @@ use Rattle.update.proofs.update.Reads as reads
 use Rattle.update.proofs.update.Lts as lts
 use Rattle.store.proofs.part_of.Reads as part-of-reads
 use Rattle.update.proofs.mark_replaced.Reads as mark-replaced-reads
-use Rattle.sides.proofs.old_row.Reads as old-row-reads
+use Rattle.side_table.proofs.old_row.Reads as old-row-reads
 use Rattle.update.proofs.replace_rows.Reads as replace-rows-reads
-use Rattle.sides.proofs.replace_side.Reads as replace-side-reads
+use Rattle.side_table.proofs.replace_side.Reads as replace-side-reads
 use Rattle.ways.proofs.is_qualified.Reads as is-qualified-reads
 
 -- src/lib.rt:96:9

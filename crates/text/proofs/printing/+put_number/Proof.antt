@@ -69,10 +69,14 @@ put-number-add-out-2 : (t : ℕ) → put-number-lts.Need-add-out-2 (calls t) (pu
 put-number-add-out-2 t c = search needs
 
 put-number-slice-write-out-2 : (t : ℕ) → put-number-lts.Need-slice-write-out-2 (calls t) (put-number-at t) put-number.Post
-put-number-slice-write-out-2 t c = tens-fit _ _ _ _ _ (c .before .before .before .before .if1 .left) (search needs) (c .before .before .put-number .ensures .0) (c .before .before .before .before .before .before .pre .1)
+put-number-slice-write-out-2 t c =
+    let test = c .before .before .before .before in
+    tens-fit _ _ _ _ _ (test .if1 .left) (search needs) (c .before .before .put-number .ensures .0) (test .before .before .pre .1)
 
 put-number-add-result-2 : (t : ℕ) → put-number-lts.Need-add-result-2 (calls t) (put-number-at t) put-number.Post
-put-number-add-result-2 t c = omega (arith, tens-fit _ _ _ _ _ (c .before .before .before .before .if1 .left) (search needs) (c .before .before .put-number .ensures .0) (c .before .before .before .before .before .before .pre .1))
+put-number-add-result-2 t c =
+    let test = c .before .before .before .before in
+    omega (arith, tens-fit _ _ _ _ _ (test .if1 .left) (search needs) (c .before .before .put-number .ensures .0) (test .before .before .pre .1))
 
 put-number-same-length-2 : (t : ℕ) → put-number-lts.Need-same-length-2 (calls t) (put-number-at t) put-number.Post
 put-number-same-length-2 t c = search needs

@@ -30,7 +30,13 @@ same-length c = search needs
 
 returns : tie.Need-returns
 unfolding headText
-returns c = (wrote-then (wrote-then (c .before .before .before .before .before .before .before .before .before .before .before .before .put-field .ensures .0) (c .before .before .before .before .before .before .before .put-field2 .ensures .0)) (c .before .before .put .ensures), omega (arith, c .before .before .put .ensures .end-is))
+returns c =
+    let line-end = c .before .before in
+    let store = line-end .before .before .before .before .before in
+    let root = store .before .before .before .before .before in (
+      wrote-then (wrote-then (root .put-field .ensures .0) (store .put-field2 .ensures .0)) (line-end .put .ensures),
+      omega (arith, line-end .put .ensures .end-is),
+    )
 
 pub put-head-spec : {M : Type 1} → statement M
 put-head-spec =

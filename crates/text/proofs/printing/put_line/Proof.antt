@@ -30,7 +30,13 @@ same-length c = search needs
 
 returns : tie.Need-returns
 unfolding lineText
-returns c = (wrote-then (wrote-then (wrote-then (c .before .before .before .before .before .before .before .before .before .before .before .before .before .before .before .before .put-number .ensures .0) (c .before .before .before .before .before .before .before .before .before .before .before .put-field .ensures .0)) (c .before .before .before .before .before .before .before .put-sets .ensures .0)) (c .before .before .put .ensures), omega (arith, c .before .before .put .ensures .end-is))
+returns c =
+    let line-end = c .before .before in
+    let sets = line-end .before .before .before .before .before in
+    let kept = sets .before .before .before .before in
+    let number = kept .before .before .before .before .before in
+    let head = wrote-then (number .put-number .ensures .0) (kept .put-field .ensures .0) in
+    (wrote-then (wrote-then head (sets .put-sets .ensures .0)) (line-end .put .ensures), omega (arith, line-end .put .ensures .end-is))
 
 pub put-line-spec : {M : Type 1} → statement M
 put-line-spec =

@@ -3,8 +3,7 @@
 use Prim.Native.Nat.{_+_, _*_, _≤_, _-_}
 use mathlib.Core.Path.{_≡_, refl}
 use lib.ListN.{length}
-use Rattle.text.specs.Laid.{lineOf}
-use Rattle.text.specs.Printing.{linesUpTo}
+use Rattle.text.specs.Laid.{lineOf, linesIn}
 use Rattle.text.specs.Writing.{Wrote}
 use Rattle.text.proofs.Lines.{lines-none, lines-more, lines-end}
 use borrow.Author.Needs.{needs}
@@ -13,7 +12,8 @@ use Rattle.text.proofs.printing.put_lines.Statement.{statement}
 use Rattle.text.proofs.printing.put_lines.Tie as tie
 
 abbrev Inv-loop : tie.InvT-loop
-Inv-loop n kept columns dep need out₀ at end₀ t₀ out end t = (t ≤ n) × (length out ≡ length out₀) × (end ≤ at + 115 * t) × Wrote out₀ at (linesUpTo (lineOf kept columns dep need) t) out end
+Inv-loop n kept columns dep need out₀ at end₀ t₀ out end t =
+    (t ≤ n) × (length out ≡ length out₀) × (end ≤ at + 115 * t) × Wrote out₀ at (linesIn kept columns dep need t) out end
 
 abbrev μ-loop : tie.MeasureT-loop
 μ-loop n kept columns dep need out₀ at end₀ t₀ out end t = n - t
@@ -38,7 +38,9 @@ loop-less c = search needs
 
 loop-again : tie.Need-loop-again Inv-loop μ-loop
 unfolding lineOf
-loop-again c = (search needs, omega arith, omega arith, lines-more _ _ _ _ _ _ _ _ (c .before .before .before .before .before .before .loop .inv .3) (c .before .before .put-line .ensures .0))
+loop-again c =
+    let turn = c .before .before .before .before .before .before .loop in
+    (search needs, omega arith, omega arith, lines-more _ _ _ _ _ _ _ _ (turn .inv .3) (c .before .before .put-line .ensures .0))
 
 same-length : tie.Need-same-length Inv-loop μ-loop
 same-length c = c .before .loop .inv .1

@@ -32,22 +32,26 @@ slice-aggregate-put-lines-4 : tie.Need-slice-aggregate-put-lines-4
 slice-aggregate-put-lines-4 c = search needs
 
 put-lines-requires : tie.Need-put-lines-requires
-put-lines-requires c κs = (
-  omega (arith, slice-aggregate-put-lines (c .before .before .before .before)),
-  (
-    omega (arith, slice-aggregate-put-lines-2 (c .before .before .before)),
-    (
-      omega (arith, slice-aggregate-put-lines-3 (c .before .before)),
-      (omega (arith, slice-aggregate-put-lines-4 (c .before)), omega (arith, c .before .before .before .before .before .before .before .put-head .ensures .1)),
-    ),
-  ),
-)
+put-lines-requires c κs =
+    let head = c .before .before .before .before .before .before .before .put-head .ensures .1 in (
+      omega (arith, slice-aggregate-put-lines (c .before .before .before .before)),
+      (
+        omega (arith, slice-aggregate-put-lines-2 (c .before .before .before)),
+        (omega (arith, slice-aggregate-put-lines-3 (c .before .before)), (omega (arith, slice-aggregate-put-lines-4 (c .before)), omega (arith, head))),
+      ),
+    )
 
 same-length-2 : tie.Need-same-length-2
 same-length-2 c = search needs
 
 returns-2 : tie.Need-returns-2
-returns-2 c = (wrote-as (good-answer _ (c .before .before .before .before .before .before .before .before .before .before .before .before .before .before .before .before .if1 .left)) (wrote-then (c .before .before .before .before .before .before .before .before .before .before .put-head .ensures .0) (c .before .before .put-lines .ensures .0)), omega (arith, c .before .before .put-lines .ensures .1, c .before .before .before .before .before .before .before .before .before .before .put-head .ensures .1))
+returns-2 c =
+    let lines = c .before .before in
+    let head = lines .before .before .before .before .before .before .before .before in
+    let text = good-answer _ (head .before .before .before .before .before .before .if1 .left) in (
+      wrote-as text (wrote-then (head .put-head .ensures .0) (lines .put-lines .ensures .0)),
+      omega (arith, lines .put-lines .ensures .1, head .put-head .ensures .1),
+    )
 
 pub put-plan-spec : {M : Type 1} → statement M
 put-plan-spec =

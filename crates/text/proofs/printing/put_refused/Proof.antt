@@ -24,7 +24,9 @@ same-length c = search needs
 
 returns : tie.Need-returns
 unfolding refusedText
-returns c = (wrote-then (c .before .before .before .before .before .before .before .put-field .ensures .0) (c .before .before .put .ensures), omega (arith, c .before .before .put .ensures .end-is))
+returns c =
+    let line-end = c .before .before .put .ensures in
+    (wrote-then (c .before .before .before .before .before .before .before .put-field .ensures .0) line-end, omega (arith, line-end .end-is))
 
 pub put-refused-spec : {M : Type 1} → statement M
 put-refused-spec =

@@ -45,7 +45,10 @@ loop-less c = search needs
 
 loop-again : tie.Need-loop-again Inv-loop μ-loop
 unfolding marked
-loop-again c = (search needs, passed-in _ _ _ _ _ _ (c .before .before .before .before .before .before .before .loop .inv .1) (eq-eqb _ _ (c .before .before .before .before .if1 .taken)) (omega arith) _ _ (c .before .before .put-member .ensures))
+loop-again c =
+    let turn = c .before .before .before .before .before .before .before .loop in
+    let marked-so = eq-eqb _ _ (c .before .before .before .before .if1 .taken) in
+    (search needs, passed-in _ _ _ _ _ _ (turn .inv .1) marked-so (omega arith) _ _ (c .before .before .put-member .ensures))
 
 loop-less-2 : tie.Need-loop-less-2 Inv-loop μ-loop
 loop-less-2 c = search needs
@@ -65,14 +68,18 @@ same-length c = simp length-set (c .before .before .loop .inv .1 .long)
 
 returns : tie.Need-returns Inv-loop μ-loop
 unfolding markedIn
-returns c = (set-none _ _ _ _ _ _ (c .before .before .loop .inv .1) _ (c .before .before .loop .inv .0) (c .before .loop-test .left) (c .if2 .taken), search needs)
+returns c =
+    let end = c .before .before .loop in
+    (set-none _ _ _ _ _ _ (end .inv .1) _ (end .inv .0) (c .before .loop-test .left) (c .if2 .taken), search needs)
 
 same-length-2 : tie.Need-same-length-2 Inv-loop μ-loop
 same-length-2 c = c .before .before .loop .inv .1 .long
 
 returns-2 : tie.Need-returns-2 Inv-loop μ-loop
 unfolding markedIn
-returns-2 c = (set-some _ _ _ _ _ _ (c .before .before .loop .inv .1) _ (c .before .before .loop .inv .0) (c .before .loop-test .left) (c .if2 .left), omega arith)
+returns-2 c =
+    let end = c .before .before .loop in
+    (set-some _ _ _ _ _ _ (end .inv .1) _ (end .inv .0) (c .before .loop-test .left) (c .if2 .left), omega arith)
 
 pub put-set-spec : {M : Type 1} → statement M
 put-set-spec =

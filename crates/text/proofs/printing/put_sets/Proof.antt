@@ -30,7 +30,13 @@ same-length c = search needs
 
 returns : tie.Need-returns
 unfolding setsText
-returns c = (wrote-then (wrote-then (c .before .before .before .before .before .before .before .before .before .before .before .before .put-named .ensures .0) (c .before .before .before .before .before .before .before .put-named2 .ensures .0)) (c .before .before .put-named3 .ensures .0), omega (arith, c .before .before .put-named3 .ensures .1))
+returns c =
+    let need = c .before .before in
+    let dep = need .before .before .before .before .before in
+    let columns = dep .before .before .before .before .before in (
+      wrote-then (wrote-then (columns .put-named .ensures .0) (dep .put-named2 .ensures .0)) (need .put-named3 .ensures .0),
+      omega (arith, need .put-named3 .ensures .1),
+    )
 
 pub put-sets-spec : {M : Type 1} → statement M
 put-sets-spec =

@@ -25,10 +25,16 @@ returns-2 : tie.Need-returns-2
 returns-2 c = byte-blank _ _ _ (c .before .before .if1 .left) (blank _ (c .before .match .keys1)) (c .take-blank .ensures)
 
 returns-3 : tie.Need-returns-3
-returns-3 c = byte-digit _ _ _ (c .before .before .before .before .if1 .left) (no-blank _ (c .before .before .before .match .rest .1)) (digit _ (c .before .before .if2 .left) (c .before .if3 .taken)) (c .take-digit .ensures)
+returns-3 c =
+    let at-match = c .before .before .before in
+    byte-digit _ _ _ (at-match .before .if1 .left) (no-blank _ (at-match .match .rest .1)) (digit _ (c .before .before .if2 .left) (c .before .if3 .taken))
+    (c .take-digit .ensures)
 
 returns-4 : tie.Need-returns-4
-returns-4 c = byte-other _ _ _ (c .before .before .before .if1 .left) (no-blank _ (c .before .before .match .rest .1)) (⊎-elim (λ w. below-digits _ (w .taken)) (λ w. above-digits _ (w .1 .left)) (c .before .if2 .came)) (c .broken .ensures)
+returns-4 c =
+    let at-match = c .before .before in
+    let other = ⊎-elim (λ w. below-digits _ (w .taken)) (λ w. above-digits _ (w .1 .left)) (c .before .if2 .came) in
+    byte-other _ _ _ (at-match .before .if1 .left) (no-blank _ (at-match .match .rest .1)) other (c .broken .ensures)
 
 pub take-byte-spec : {M : Type 1} → statement M
 take-byte-spec =

@@ -1,0 +1,5 @@
+pub mod Words
+pub mod Given
+pub mod Rewrites
+pub mod Altered
+pub mod Lists

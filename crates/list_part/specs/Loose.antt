@@ -1,0 +1,39 @@
+-- A part with a row or some columns written, one whose rows are not in order yet, and a store in which such rows stand in a part
+-- while every other word is as before.
+-- Assumes nothing.
+use Prim.Native.Nat.{ℕ, _*_, _≤_}
+use mathlib.Core.Path.{_≡_}
+use lib.Dec.{T, eqb}
+use lib.ListN.{length, drop}
+use Rattle.lists.specs.Lists.{Words, all}
+use Rattle.lists.specs.Parts.{splice}
+use Rattle.rows.specs.Rows.{Row, Rows, cut}
+use Rattle.rows.specs.Words.{written}
+use Rattle.rows.specs.Regions.{laid}
+use Rattle.rows.proofs.Cut.{Wide}
+use Rattle.store.specs.declared.Part.{Part}
+use Rattle.store.specs.Parts.{sizeOf, stopOf, wordsIn, countIn, Within}
+use Rattle.list_part.specs.Gives.{given}
+
+-- the store with r over row k of the part
+abbrev pub rowPut : Part → Words → ℕ → Row → Words
+rowPut p ws k r = splice ws (p .start) (stopOf p) (written (wordsIn p ws) (k * p .columns) r (p .columns))
+
+-- the store with r's values in table t's columns of the part's marked rows
+abbrev pub rowsGiven : Words → ℕ → Row → Words → Part → Words → Words
+rowsGiven sheet t r marks p ws = splice ws (p .start) (stopOf p) (given sheet t r marks (countIn p ws) (wordsIn p ws))
+
+-- count rows stand in the part, in any order, and zeros after them
+pub record Loose (p : Part) (count : ℕ) (ws : Words) : Type 0 where
+  pub within : Within p ws
+  pub fits : count ≤ p .room
+  pub zeros : T (all (eqb 0) (drop (count * p .columns) (wordsIn p ws)))
+
+unfoldable pub looseRows : Part → ℕ → Words → Rows
+looseRows p count ws = cut (p .columns) count (wordsIn p ws)
+
+-- ws is the old store with these rows in the part, in any order, and zeros after them
+pub record Behind (p : Part) (old : Words) (rows : Rows) (ws : Words) : Type 0 where
+  pub words : ws ≡ splice old (p .start) (stopOf p) (laid (sizeOf p) rows)
+  pub wide : Wide (p .columns) rows
+  pub fits : length rows ≤ p .room
