@@ -95,8 +95,7 @@ module _ (ws : Words) (g : GoodSheet ws) where
         columns-small = λ part h. Sizes.columns-small ws g part (below part h);
         rooms-at = λ part h. parts-read (roomAt s) part h;
         rooms-small = λ part h. Sizes.room-small ws g part (below part h);
-        starts-at = λ part h. starts-read s n-few part (omega arith);
-        starts-end = starts-read s n-few (s .n + 1) (omega arith);
+        starts-at = starts-read s n-few;
         parts-in = ends;
         order-in = order-in s good;
         outward = order-outward s good;

@@ -42,8 +42,8 @@ pub record Planned (s : Sheet) (p : Plan) : Type 0 where
   pub columns-small : (part : ℕ) → part ≤ s .n → columns s part ≤ 16
   pub rooms-at : (part : ℕ) → part ≤ s .n → getD (p .rooms) part 0 ≡ room s part
   pub rooms-small : (part : ℕ) → part ≤ s .n → room s part ≤ 4096
-  pub starts-at : (part : ℕ) → part ≤ s .n → getD (p .starts) part 0 ≡ start s part
-  pub starts-end : getD (p .starts) (s .n + 1) 0 ≡ storeLength s
+  -- each part's, and behind the list's the store's end
+  pub starts-at : (part : ℕ) → part ≤ s .n + 1 → getD (p .starts) part 0 ≡ start s part
   -- a part ends within the store
   pub parts-in : (part : ℕ) → part ≤ s .n → start s part + size s part ≤ storeLength s
   -- the edges in an order in which a walk can take them
