@@ -24,7 +24,6 @@ use Rattle.sheet.specs.declared.Verdict.the-variants as Verdicts
 use Rattle.kinds.specs.Asked.{changeOf, askedOf}
 use Rattle.kinds.proofs.Tests.{asked-good, no-kind}
 use Rattle.layout.specs.declared.Plan.{Plan}
-use Rattle.routes.specs.declared.Route.{Route}
 use Rattle.ways.specs.Grounds.{Lent}
 use Rattle.store.specs.declared.Answer.{Answer}
 use Rattle.store.specs.Answers.{Says}
@@ -106,7 +105,7 @@ module _ (ws : Words) (kind t : ℕ) (r r′ : Row) (h : askedOf ws (changeOf ki
   pub no-other : (kind ≡ 1 → ⊥) → (kind ≡ 2 → ⊥) → (kind ≡ 3 → ⊥) → ⊥
   no-other a b c = let e = no-kind ws kind t r r′ a b c ∙ h in let q : _≡_ {A = ℕ} 0 1 = cc in omega arith
 
-  module _ (store : Words) (plan : Plan) (p : Route) (ready : Ready ws store plan p) (a : Answer) (exit : Words) where
+  module _ (store : Words) (plan : Plan) (ready : Ready ws store plan) (a : Answer) (exit : Words) where
     pub applies : (k : ℕ) → kind ≡ k → Says (applied (sheetOf ws) store (made k t r r′)) a exit → Applies ws store (changeOf kind t r r′) a exit
     applies k e x =
         record {

@@ -1,6 +1,5 @@
 // A change below its tests, on a sound store: what it does to it and what it answers. The store is sound again after it.
 use layout::Plan;
-use routes::Route;
 use sheet::BAD_CHANGE;
 use store::Answer;
 ghost use mathlib.Core.Path.{_≡_};
@@ -13,21 +12,20 @@ ghost use Rattle.apply.specs.Applies.{Applies};
 pub fn apply(
     sheet: &[u64],
     plan: Plan,
-    route: Route,
     store: &mut [u64],
     kind: u64,
     table: usize,
     old: &[u64],
     new: &[u64],
 ) -> Answer
-    requires { ⌜ Ready (now sheet) (now store) plan route ⌝ }
+    requires { ⌜ Ready (now sheet) (now store) plan ⌝ }
     requires { ⌜ askedOf (now sheet) (changeOf kind table (now old) (now new)) ≡ Good ⌝ }
     ensures { λ a. ⌜ Applies (now (sheet .entry)) (now (store .entry)) (changeOf kind table (now (old .entry)) (now (new .entry))) a (now (store .exit)) ⌝ }
 {
     match kind {
-        1 => insert::insert(sheet, plan, route, store, table, new),
-        2 => delete::delete(sheet, plan, route, store, table, old),
-        3 => update::update(sheet, plan, route, store, table, old, new),
+        1 => insert::insert(sheet, plan, store, table, new),
+        2 => delete::delete(sheet, plan, store, table, old),
+        3 => update::update(sheet, plan, store, table, old, new),
         0 | 4..=u64::MAX => Answer::Refused(BAD_CHANGE),
     }
 }

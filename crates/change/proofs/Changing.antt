@@ -13,7 +13,7 @@ use Rattle.meaning.specs.Plan.{storeLength}
 use Rattle.meaning.specs.Base.{Change, goodChange, tiedStay}
 use Rattle.meaning.specs.Store.{sound}
 use Rattle.meaning.specs.Change.{change}
-use Rattle.effects.proofs.Calls.{refuses-sheet, refuses-4, refuses-5, refuses-6, refuses-7, change-is}
+use Rattle.effects.proofs.Calls.{refuses-sheet, refuses-length, refuses-change, refuses-tied, refuses-unsound, change-is}
 use Rattle.sheet.specs.declared.Verdict.{Verdict}
 use Rattle.sheet.specs.declared.Verdict.the-variants as Verdicts
 use Rattle.sheet.specs.Verdicts.{numberOf}
@@ -23,8 +23,6 @@ use Rattle.layout.specs.declared.Checked.{Checked}
 use Rattle.layout.specs.Plans.{checkedOf}
 use Rattle.kinds.specs.Asked.{askedOf}
 use Rattle.kinds.proofs.Tests.{asked-good}
-use Rattle.routes.specs.declared.Route.{Route}
-use Rattle.ways.specs.Grounds.{Routed}
 use Rattle.store.specs.declared.Answer.{Answer}
 use Rattle.store.specs.declared.Answer.the-variants.{Refused}
 use Rattle.store.specs.Answers.{Says}
@@ -32,8 +30,8 @@ use Rattle.store.specs.Plans.{GoodPlan, SoundIs}
 use Rattle.store.proofs.Answers.{says-once, says-refused}
 use Rattle.store.proofs.Checks.{check-good, check-plan, check-refused, check-numbered}
 use Rattle.store.proofs.Plans.{store-is}
-use Rattle.routes.specs.Arrays.{routeOf}
 use Rattle.routes.specs.Ready.{Ready}
+use Rattle.routes.proofs.Routes.{routed}
 use Rattle.apply.specs.Applies.{Applies}
 
 -- two outcomes of one call are the same
@@ -63,7 +61,7 @@ module _ (sheet store : Words) (c : Change) (k : Checked) (e : k ≡ checkedOf s
     long-is = store-is (sheetOf sheet) (k .plan) plan
 
     pub says-length : (length store ≡ k .plan .store → ⊥) → Says (change sheet store c) (Refused 4) store
-    says-length d = says-refused (change sheet store c) 4 store (λ z. omega arith) (refuses-4 sheet store c good (λ q. d (q ∙ sym long-is)))
+    says-length d = says-refused (change sheet store c) 4 store (λ z. omega arith) (refuses-length sheet store c good (λ q. d (q ∙ sym long-is)))
 
     module _ (l : length store ≡ k .plan .store) where
       -- 5 or 6, whichever is asked first
@@ -79,10 +77,10 @@ module _ (sheet store : Words) (c : Change) (k : Checked) (e : k ≡ checkedOf s
           go true x true y q = absurd (let z : _≡_ {A = ℕ} 0 1 = cc in omega arith)
           go true x false y q =
               subst (λ (j : ℕ). Says (change sheet store c) (Refused j) store) (number 6 q)
-              (says-refused (change sheet store c) 6 store (λ z. omega arith) (refuses-6 sheet store c good (l ∙ long-is) x y))
+              (says-refused (change sheet store c) 6 store (λ z. omega arith) (refuses-tied sheet store c good (l ∙ long-is) x y))
           go false x b y q =
               subst (λ (j : ℕ). Says (change sheet store c) (Refused j) store) (number 5 q)
-              (says-refused (change sheet store c) 5 store (λ z. omega arith) (refuses-5 sheet store c good (l ∙ long-is) x))
+              (says-refused (change sheet store c) 5 store (λ z. omega arith) (refuses-change sheet store c good (l ∙ long-is) x))
 
       module _ (v : Verdict) (a : v ≡ askedOf sheet c) where
         pub says-asked : (n r : ℕ) → v ≡ Verdicts.Refused n → r ≡ numberOf v → Says (change sheet store c) (Refused r) store
@@ -97,11 +95,12 @@ module _ (sheet store : Words) (c : Change) (k : Checked) (e : k ≡ checkedOf s
 
           pub says-unsound : b ≡ false → Says (change sheet store c) (Refused 7) store
           says-unsound f =
-              says-refused (change sheet store c) 7 store (λ z. omega arith) (refuses-7 sheet store c good (l ∙ long-is) (tests .0) (tests .1) (found ∙ f))
+              says-refused (change sheet store c) 7 store (λ z. omega arith) (refuses-unsound sheet store c good (l ∙ long-is) (tests .0) (tests .1) (found ∙ f))
 
           module _ (t : b ≡ true) where
-            pub is-ready : (p : Route) → Routed sheet (routeOf p) → Ready sheet store (k .plan) p
-            is-ready p r = record { sheet = sheet-good sheet k e g; planned = plan; routed = r; sound = isT (found ∙ t) }
+            pub is-ready : Ready sheet store (k .plan)
+            is-ready =
+                record { sheet = sheet-good sheet k e g; planned = plan; routed = routed sheet (k .plan) (plan .planned); sound = isT (found ∙ t) }
 
             pub says-applied : (o : Answer) (exit : Words) → Applies sheet store c o exit → Says (change sheet store c) o exit
             says-applied o exit x = rw (change-is sheet store c good (l ∙ long-is) (tests .0) (tests .1) (found ∙ t)) (x .says)

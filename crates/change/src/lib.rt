@@ -37,6 +37,5 @@ pub fn change(
     if !store::is_sound(plan, store) {
         return Answer::Refused(NOT_SOUND);
     }
-    let route = routes::route_of(sheet, plan);
-    apply::apply(sheet, plan, route, store, kind, table as usize, old, new)
+    apply::apply(sheet, plan, store, kind, table as usize, old, new)
 }

@@ -16,7 +16,6 @@ use Rattle.laws.proofs.Changes.{made}
 use Rattle.effects.specs.Applied.{applied, walkRows}
 use Rattle.effects.proofs.Deletes.{delete-contradicts-side, delete-none, delete-contradicts-list, delete-done}
 use Rattle.layout.specs.declared.Plan.{Plan}
-use Rattle.routes.specs.declared.Route.{Route}
 use Rattle.ways.specs.Grounds.{Lent}
 use Rattle.store.specs.declared.Part.{Part}
 use Rattle.store.specs.declared.Answer.the-variants.{Done, Refused}
@@ -32,7 +31,7 @@ use Rattle.taken.specs.declared.Taken.the-variants.{All, Contrary}
 use Rattle.taken.specs.Taking.{WaysTaken}
 use Rattle.delete.specs.Deletes.{Deletes}
 
-module _ {ws store : Words} {plan : Plan} {p : Route} (rd : Ready ws store plan p) {t : ℕ} {r : Row} (lent : Lent ws t r)
+module _ {ws store : Words} {plan : Plan} (rd : Ready ws store plan) {t : ℕ} {r : Row} (lent : Lent ws t r)
     (q : Bool) (eq : q ≡ qualifies (sheetOf ws) (modelOf (sheetOf ws) store) t r) (b : Bool) (eb : b ≡ oldRow (sheetOf ws) (modelOf (sheetOf ws) store) t r) where
   -- the side table contradicts it
   pub deletes-contradicts-side : not b ≡ true → Deletes ws store t r (Refused 8) store

@@ -3,25 +3,17 @@ use layout::Plan;
 use sheet::CONTRADICTION;
 use store::Answer;
 use taken::Taken;
-use ways::Route;
 ghost use Rattle.ways.specs.Grounds.{Lent};
 ghost use Rattle.routes.specs.Ready.{Ready};
 ghost use Rattle.delete.specs.Deletes.{Deletes};
 
 // Row leaves its table, if it is qualified: its shown columns the side table, and a row for each way through it the list.
-pub fn delete(
-    sheet: &[u64],
-    plan: Plan,
-    route: Route,
-    store: &mut [u64],
-    table: usize,
-    row: &[u64],
-) -> Answer
-    requires { ⌜ Ready (now sheet) (now store) plan route ⌝ }
+pub fn delete(sheet: &[u64], plan: Plan, store: &mut [u64], table: usize, row: &[u64]) -> Answer
+    requires { ⌜ Ready (now sheet) (now store) plan ⌝ }
     requires { ⌜ Lent (now sheet) table (now row) ⌝ }
     ensures { λ a. ⌜ Deletes (now (sheet .entry)) (now (store .entry)) table (now (row .entry)) a (now (store .exit)) ⌝ }
 {
-    let qualified = ways::is_qualified(sheet, route, store, table, row);
+    let qualified = ways::is_qualified(sheet, &plan.starts, &plan.columns, store, table, row);
     if !side_table::old_row(sheet, plan, store, table, row, qualified) {
         return Answer::Refused(CONTRADICTION);
     }
@@ -30,7 +22,19 @@ pub fn delete(
     }
     let list = store::part_of(plan, plan.tables);
     let mut marks = [0u16; 4096];
-    let a = taken::mark_ways(sheet, route, store, list, table, row, &mut marks);
+    let a = taken::mark_ways(
+        sheet,
+        plan.root,
+        &plan.order,
+        &plan.starts,
+        &plan.columns,
+        &plan.places,
+        store,
+        list,
+        table,
+        row,
+        &mut marks,
+    );
     let Taken::All(taken) = a else {
         return Answer::Refused(CONTRADICTION);
     };

@@ -27,7 +27,7 @@ use Rattle.store.specs.Plans.{partOf}
 use Rattle.store.specs.Answers.{Says}
 use Rattle.store.proofs.Answers.{says-refused, says-done}
 use Rattle.walks.specs.Walk.{Keyed}
-use Rattle.outward.specs.Orders.{Ordered}
+use Rattle.layout.proofs.Spread.{ordered}
 use Rattle.filling.specs.Written.{listFits}
 use Rattle.filling.proofs.Walks.{lawful-keyed}
 use Rattle.filling.proofs.Outcomes.{fill-no-room, fill-done, fits-is}
@@ -58,12 +58,13 @@ module _ {ws store run : Words} {plan : Plan} {starts numbers : List ℕ} (st : 
   unfolding tablesOf
   keyed = lawful-keyed (sheetOf ws) (tablesOf ws run) (lawful-get (sheetOf ws) (tablesOf ws run) (base-many (sheetOf ws) run) (isT (te .lawful)))
 
-  pub root-is : plan .root ≡ Plans.root (sheetOf ws)
+  root-is : plan .root ≡ Plans.root (sheetOf ws)
   root-is = st .planned .planned .root-is
 
-  pub ground : (order : List ℕ) → Ordered ws order → Ground ws run starts numbers (plan .root) order
-  ground order o =
-      record { laid = te .laid; orders = te .orders; keyed = keyed; root-is = root-is; outward = o }
+  pub ground : Ground ws run starts numbers (plan .root) (plan .order)
+  ground =
+      let p = st .planned .planned in
+      record { laid = te .laid; orders = te .orders; keyed = keyed; root-is = root-is; outward = ordered ws (plan .order) (p .order-in) (p .outward) }
 
   -- Refusal 9
   fits-are : (b c : Bool) → every (fitsNo ws run) (tableCount ws) ≡ b → listFits (sheetOf ws) (tablesOf ws run) ≡ c → fits (sheetOf ws) (meaning (sheetOf ws) (baseOf (sheetOf ws) run)) ≡ (b && c)

@@ -42,7 +42,7 @@ fn fill_lawful(
         return Answer::Refused(NO_ROOM);
     }
     let root = plan.root;
-    let order = outward::order_of(sheet, root);
+    let order = plan.order;
     let list = store::part_of(plan, plan.tables);
     let added = listing::count_list(sheet, run, starts, numbers, root, order);
     if list.room < added {

@@ -20,7 +20,6 @@ use Rattle.laws.proofs.Changes.{made}
 use Rattle.effects.specs.Applied.{applied, walkRows}
 use Rattle.effects.proofs.Inserts.{insert-contradicts, insert-none, insert-no-room-side, insert-no-room-list, insert-done}
 use Rattle.layout.specs.declared.Plan.{Plan}
-use Rattle.routes.specs.declared.Route.{Route}
 use Rattle.ways.specs.Grounds.{Lent}
 use Rattle.store.specs.declared.Part.{Part}
 use Rattle.store.specs.declared.Answer.the-variants.{Done, Refused}
@@ -36,7 +35,7 @@ use Rattle.written.proofs.Answers.{says-nothing, says-all}
 use Rattle.written.proofs.Halves.{ready-good, ready-table, half-side, both-words}
 use Rattle.insert.specs.Inserts.{Inserts}
 
-module _ {ws store : Words} {plan : Plan} {p : Route} (rd : Ready ws store plan p) {t : ℕ} {r : Row} (lent : Lent ws t r) where
+module _ {ws store : Words} {plan : Plan} (rd : Ready ws store plan) {t : ℕ} {r : Row} (lent : Lent ws t r) where
   key-is : (b : Bool) → b ≡ newKey (modelOf (sheetOf ws) store) t r → b ≡ not (hasKey (key r) (rowsAt (sheetOf ws) store t))
   unfolding newKey
   key-is b e = e ∙ ap (λ (rows : Rows). not (hasKey (key r) rows)) (model-side (sheetOf ws) store t (ready-table rd lent))

@@ -1,6 +1,5 @@
 // An insert below its tests 1 to 7, on a sound store: contradiction, room, and then the list's rows and the side row.
 use layout::Plan;
-use routes::Route;
 use sheet::CONTRADICTION;
 use sheet::NO_ROOM;
 use store::Answer;
@@ -9,22 +8,15 @@ ghost use Rattle.ways.specs.Grounds.{Lent};
 ghost use Rattle.insert.specs.Inserts.{Inserts};
 
 // Row enters its table, if it is qualified: its shown columns the side table, and a row for each way through it the list.
-pub fn insert(
-    sheet: &[u64],
-    plan: Plan,
-    route: Route,
-    store: &mut [u64],
-    table: usize,
-    row: &[u64],
-) -> Answer
-    requires { ⌜ Ready (now sheet) (now store) plan route ⌝ }
+pub fn insert(sheet: &[u64], plan: Plan, store: &mut [u64], table: usize, row: &[u64]) -> Answer
+    requires { ⌜ Ready (now sheet) (now store) plan ⌝ }
     requires { ⌜ Lent (now sheet) table (now row) ⌝ }
     ensures { λ a. ⌜ Inserts (now (sheet .entry)) (now (store .entry)) table (now (row .entry)) a (now (store .exit)) ⌝ }
 {
     if !side_table::new_key(sheet, plan, store, table, row) {
         return Answer::Refused(CONTRADICTION);
     }
-    if !ways::is_qualified(sheet, &route.starts, &route.columns, store, table, row) {
+    if !ways::is_qualified(sheet, &plan.starts, &plan.columns, store, table, row) {
         return Answer::Done(0, 0);
     }
     if !side_table::has_room(sheet, plan, store, table) {
@@ -35,11 +27,11 @@ pub fn insert(
     let count = store[slot] as usize;
     let added = added::count_ways(
         sheet,
-        route.root,
-        &route.order,
-        &route.starts,
-        &route.columns,
-        &route.places,
+        plan.root,
+        &plan.order,
+        &plan.starts,
+        &plan.columns,
+        &plan.places,
         store,
         table,
         row,
@@ -49,11 +41,11 @@ pub fn insert(
     }
     added::add_ways(
         sheet,
-        route.root,
-        &route.order,
-        &route.starts,
-        &route.columns,
-        &route.places,
+        plan.root,
+        &plan.order,
+        &plan.starts,
+        &plan.columns,
+        &plan.places,
         store,
         list,
         table,

@@ -21,10 +21,15 @@ use Rattle.layout.specs.declared.Plan.{Plan}
 use Rattle.layout.proofs.Shown.{width-small}
 use Rattle.layout.proofs.Sizes as Sizes
 use Rattle.laws.proofs.Stores.{start-next}
-use Rattle.layout.proofs.Sizes.{shown-few}
+use Rattle.layout.proofs.Sizes.{shown-few, starts-read}
+use Rattle.layout.proofs.Spread.{order-in, order-outward}
+use Rattle.layout.proofs.Places.{place-is}
+use Rattle.laws.proofs.Sheets as Sheets
+use Rattle.layout.specs.Marks.{placesOf}
+use Rattle.layout.specs.Orders.{orderOf}
 
 pub plan-lengths : (s : Sheet) → Lengths (planFor s)
-unfolding planFor keptOf showsOf shownOf columnsOf roomsOf startsOf
+unfolding planFor keptOf showsOf shownOf columnsOf roomsOf startsOf orderOf placesOf
 plan-lengths s =
     record {
       kept-length = length-filled _ _ _;
@@ -33,6 +38,8 @@ plan-lengths s =
       columns-length = length-filled _ _ _;
       rooms-length = length-filled _ _ _;
       starts-length = length-filled _ _ _;
+      order-length = length-filled _ _ _;
+      places-length = length-filled _ _ _;
     }
 
 -- an array with eight places for each table, read at 8t + j
@@ -69,7 +76,7 @@ module _ (ws : Words) (g : GoodSheet ws) where
   small = omega (arith, Sizes.start-small ws g (sheetOf ws .n + 1) (omega (arith, n-is ws)), n-few)
 
   pub plan-facts : Planned (sheetOf ws) (planFor (sheetOf ws))
-  unfolding planFor keptOf keptAt showsOf showsAt shownOf shownAt columnsOf roomsOf roomAt startsOf
+  unfolding planFor keptOf keptAt showsOf showsAt shownOf shownAt columnsOf roomsOf roomAt storeLength
   plan-facts =
       record {
         lengths = plan-lengths (sheetOf ws);
@@ -88,12 +95,18 @@ module _ (ws : Words) (g : GoodSheet ws) where
         columns-small = λ part h. Sizes.columns-small ws g part (below part h);
         rooms-at = λ part h. parts-read (roomAt s) part h;
         rooms-small = λ part h. Sizes.room-small ws g part (below part h);
-        starts-at = λ part h. parts-read (start s) part h;
+        starts-at = starts-read s n-few;
         parts-in = ends;
+        order-in = order-in s good;
+        outward = order-outward s good;
+        places-at = λ t c h m. place-is ws (g .joined .rules) t c (omega (arith, n-is ws)) m;
       }
     where
       s : Sheet
       s = sheetOf ws
+
+      good : Sheets.Good (sheetOf ws)
+      good = Sheets.good-sheet ws (g .not-refused)
 
 -- the plan that the check hands out with a good verdict
 module _ (ws : Words) (h : sheetRefusal ws ≡ 0) where

@@ -17,7 +17,7 @@ use Rattle.lists.proofs.Truth.{isT, false→F}
 use Rattle.lists.proofs.Loops.{getD-filled}
 use Rattle.lists.proofs.Places.{length-from}
 use Rattle.meaning.specs.Sheet.{Sheet, sheetOf, width, room, tableCount, listedCount}
-use Rattle.meaning.specs.Plan.{kept, isShown, shown, columns, size, start, storeLength}
+use Rattle.meaning.specs.Plan.{kept, isShown, shown, columns, size, start}
 use Rattle.laws.proofs.Stores.{start-next}
 use Rattle.laws.proofs.Columns.{columns-side, columns-unkept, columns-list}
 use Rattle.sheet.specs.Counted.{counted}
@@ -61,6 +61,11 @@ shown-few s t = omega (arith, length-upTo (isShown s t) (width s t), counted-le 
 part-read : (f : ℕ → ℕ) (ws : Words) → GoodSheet ws → (part : ℕ) → part ≤ tableCount ws → getD (filled f (sheetOf ws .n + 1) (replicate 9 0)) part 0 ≡ f part
 part-read f ws g part h =
     rw (n-is ws) (getD-filled f (tableCount ws + 1) part 0 (replicate 9 0) (omega arith) (omega (arith, g .joined .rules .counts .tables-few)))
+
+-- where each part begins, and behind the list the store's end
+pub starts-read : (s : Sheet) → s .n ≤ 8 → (part : ℕ) → part ≤ s .n + 1 → getD (startsOf s) part 0 ≡ start s part
+unfolding startsOf
+starts-read s few part h = getD-filled (start s) (s .n + 2) part 0 (replicate 10 0) (omega arith) (omega arith)
 
 module _ (ws : Words) (g : GoodSheet ws) where
   -- the columns of a part, as the code finds them
@@ -130,21 +135,3 @@ module _ (ws : Words) (g : GoodSheet ws) where
   size-read rooms cols part e q h =
       ap₂ (λ (x y : List ℕ). getD x part 0 * getD y part 0) e q
       ∙ ap₂ _*_ (part-read (roomAt (sheetOf ws)) ws g part h) (part-read (columns (sheetOf ws)) ws g part h)
-
-  pub start-read : (starts : List ℕ) (part : ℕ) → starts ≡ startsOf (sheetOf ws) → part ≤ tableCount ws → getD starts part 0 ≡ start (sheetOf ws) part
-  unfolding startsOf
-  start-read starts part e h = rw (e, part-read (start (sheetOf ws)) ws g part h)
-
-  -- the list's place, and the store's end behind its room
-  module _ (starts : List ℕ) (e : starts ≡ startsOf (sheetOf ws)) (n : ℕ) (q : n ≡ tableCount ws) where
-    pub list-start : (getD starts n 0 ≡ start (sheetOf ws) n) × (getD starts n 0 ≤ 9 + 8 * 65536)
-    list-start =
-        let r = start-read starts n e (omega arith) in
-        let l = start-small n (omega arith) in
-        (r, omega (arith, g .joined .rules .counts .tables-few))
-
-    pub store-is : (b : ℕ) → b ≡ size (sheetOf ws) n → getD starts n 0 + b ≡ storeLength (sheetOf ws)
-    unfolding storeLength
-    store-is b h =
-        let behind = ap (λ (k : ℕ). start (sheetOf ws) (k + 1)) (n-is ws ∙ sym q) in
-        omega (arith, list-start .0, start-next (sheetOf ws) n, ap (start (sheetOf ws)) (add-one n))

@@ -1,4 +1,4 @@
--- Sets as marks: eight places for each table, from 8t on, and the marked numbers of a table as a rising list.
+-- Sets as marks: eight places for each table, from 8t on; the marked numbers of a table as a rising list, and the place of each in it.
 -- Assumes nothing.
 use Prim.Native.Nat.{ℕ, _+_, _*_, _/_, _%_}
 use mathlib.Core.Bool.{Bool}
@@ -7,6 +7,7 @@ use lib.Dec.{eqb}
 use lib.ListN.{getD, replicate}
 use Rattle.lists.specs.Lists.{at, select, upTo}
 use Rattle.lists.specs.Loops.{filled}
+use Rattle.sheet.specs.Counted.{counted}
 
 -- c is marked in row t
 unfoldable pub marked : List ℕ → ℕ → ℕ → Bool
@@ -22,3 +23,10 @@ markedAt marks t j = at (markedIn marks t) j
 -- the same for every row
 unfoldable pub listsOf : List ℕ → List ℕ
 listsOf marks = filled (λ i. markedAt marks (i / 8) (i % 8)) 64 (replicate 64 0)
+
+-- the place of each number among the marked ones: how many before it are marked
+unfoldable pub placeNo : List ℕ → ℕ → ℕ
+placeNo marks i = counted (marked marks (i / 8)) (i % 8)
+
+unfoldable pub placesOf : List ℕ → List ℕ
+placesOf marks = filled (placeNo marks) 64 (replicate 64 0)

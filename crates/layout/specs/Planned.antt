@@ -4,10 +4,13 @@ use Prim.Native.Nat.{ℕ, _+_, _*_, _<_, _≤_}
 use mathlib.Core.Path.{_≡_}
 use mathlib.Core.Bool.{_&&_}
 use lib.ListN.{length, getD}
-use Rattle.lists.specs.Lists.{at}
+use Rattle.lists.specs.Lists.{at, placeOf}
+use Rattle.lists.proofs.Truth.{Mem}
 use Rattle.lists.specs.Totals.{one}
 use Rattle.meaning.specs.Sheet.{Sheet, hasColumn, room}
 use Rattle.meaning.specs.Plan.{root, kept, isShown, shown, columns, size, start, storeLength}
+use Rattle.walks.specs.Route.{Outward}
+use Rattle.layout.specs.Orders.{edgeAt}
 use Rattle.layout.specs.declared.Plan.{Plan}
 
 -- the lengths of the arrays
@@ -17,7 +20,9 @@ pub record Lengths (p : Plan) : Type 0 where
   pub shown-length : length (p .shown) ≡ 64
   pub columns-length : length (p .columns) ≡ 9
   pub rooms-length : length (p .rooms) ≡ 9
-  pub starts-length : length (p .starts) ≡ 9
+  pub starts-length : length (p .starts) ≡ 10
+  pub order-length : length (p .order) ≡ 8
+  pub places-length : length (p .places) ≡ 64
 
 -- p is the plan of the sheet s
 pub record Planned (s : Sheet) (p : Plan) : Type 0 where
@@ -37,6 +42,12 @@ pub record Planned (s : Sheet) (p : Plan) : Type 0 where
   pub columns-small : (part : ℕ) → part ≤ s .n → columns s part ≤ 16
   pub rooms-at : (part : ℕ) → part ≤ s .n → getD (p .rooms) part 0 ≡ room s part
   pub rooms-small : (part : ℕ) → part ≤ s .n → room s part ≤ 4096
-  pub starts-at : (part : ℕ) → part ≤ s .n → getD (p .starts) part 0 ≡ start s part
+  -- each part's, and behind the list's the store's end
+  pub starts-at : (part : ℕ) → part ≤ s .n + 1 → getD (p .starts) part 0 ≡ start s part
   -- a part ends within the store
   pub parts-in : (part : ℕ) → part ≤ s .n → start s part + size s part ≤ storeLength s
+  -- the edges in an order in which a walk can take them
+  pub order-in : (j : ℕ) → j + 1 < s .n → at (p .order) j < length (s .edges)
+  pub outward : Outward s (λ j. edgeAt s (at (p .order) j))
+  -- a shown column's place among the shown ones
+  pub places-at : (t c : ℕ) → t < s .n → Mem c (shown s t) → at (p .places) (8 * t + c) ≡ placeOf c (shown s t)

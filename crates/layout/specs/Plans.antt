@@ -12,6 +12,8 @@ use Rattle.meaning.specs.Plan.{root, kept, isShown, shown, columns, start, stor
 use Rattle.sheet.specs.Verdicts.{verdictOf}
 use Rattle.sheet.specs.declared.Verdict.{Verdict}
 use Rattle.sheet.specs.declared.Verdict.the-variants.{Good, Refused}
+use Rattle.layout.specs.Marks.{placesOf}
+use Rattle.layout.specs.Orders.{orderOf}
 use Rattle.layout.specs.declared.Plan.{Plan}
 use Rattle.layout.specs.declared.Checked.{Checked}
 
@@ -43,8 +45,9 @@ roomAt s part = room s part
 unfoldable pub roomsOf : Sheet → List ℕ
 roomsOf s = filled (roomAt s) (s .n + 1) (replicate 9 0)
 
+-- where each part begins, and behind the list the store's end
 unfoldable pub startsOf : Sheet → List ℕ
-startsOf s = filled (start s) (s .n + 1) (replicate 9 0)
+startsOf s = filled (start s) (s .n + 2) (replicate 10 0)
 
 unfoldable pub planFor : Sheet → Plan
 planFor s =
@@ -58,6 +61,8 @@ planFor s =
       columns = columnsOf s;
       rooms = roomsOf s;
       starts = startsOf s;
+      order = orderOf s;
+      places = placesOf (showsOf s);
     }
 
 abbrev pub emptyPlan : Plan
@@ -71,7 +76,9 @@ emptyPlan =
       shown = replicate 64 0;
       columns = replicate 9 0;
       rooms = replicate 9 0;
-      starts = replicate 9 0;
+      starts = replicate 10 0;
+      order = replicate 8 0;
+      places = replicate 64 0;
     }
 
 -- the plan beside a verdict

@@ -1,15 +1,20 @@
 // The plan of a good sheet: what the calls need of it, as arrays table by table, beside the verdict.
+mod marks;
+mod outward;
+
+pub use marks::mark_of;
+use marks::marked_lists;
+use marks::marks_before;
+use marks::places_of;
+use outward::order_of;
 use sheet::Verdict;
 ghost use mathlib.Core.Path.{_≡_};
 ghost use Prim.Native.Nat.{ℕ, _+_, _*_, _≤_, _<_};
-ghost use Rattle.lists.specs.Totals.{one};
 ghost use Rattle.meaning.specs.Sheet.{sheetOf, tableCount};
 ghost use Rattle.meaning.specs.Plan.{columns, size, storeLength};
 ghost use Rattle.sheet.specs.Rules.{Counts};
-ghost use Rattle.sheet.specs.Counted.{counted};
 ghost use Rattle.sheet.specs.Tree.{GoodSheet};
 ghost use Rattle.layout.specs.Plans.{keptOf, showsAt, showsOf, shownOf, columnsOf, roomsOf, startsOf, planFor, emptyPlan, checkedOf};
-ghost use Rattle.layout.specs.Marks.{marked, markedAt, listsOf};
 
 // Part t is table t's, part n (tables) the list's. Column sets have eight places for each table, from 8t on.
 pub struct Plan {
@@ -26,19 +31,17 @@ pub struct Plan {
     // of each part: how many columns its rows have, how many rows it has room for, where it begins in the store
     pub columns: [usize; 9],
     pub rooms: [usize; 9],
-    pub starts: [usize; 9],
+    // and behind the list the store's end
+    pub starts: [usize; 10],
+    // the numbers of the edges, in an order from the root outward
+    pub order: [usize; 8],
+    // the place at 8t + c that column c has among those that table t's side table shows
+    pub places: [usize; 64],
 }
 
 pub struct Checked {
     pub verdict: Verdict,
     pub plan: Plan,
-}
-
-// A test as a mark.
-pub fn mark_of(b: bool) -> u64
-    ensures { λ r. ⌜ r ≡ one b ⌝ }
-{
-    if b { 1 } else { 0 }
 }
 
 fn kept_marks(sheet: &[u64]) -> [u64; 8]
@@ -79,55 +82,6 @@ fn shows_marks(sheet: &[u64]) -> [u64; 64]
     m
 }
 
-// Number j of the numbers below 8 that row t of the marks has, or 0.
-fn marked_at(marks: [u64; 64], t: usize, j: usize) -> usize
-    requires { ⌜ t < 8 ⌝ }
-    ensures { λ r. ⌜ r ≡ markedAt marks t j ⌝ }
-{
-    let mut many = 0;
-    let mut k = 0;
-    while k < 8 {
-        let c = k;
-        k += 1;
-        if marks[8 * t + c] == 1 {
-            if many == j {
-                return c;
-            }
-            many += 1;
-        }
-    }
-    0
-}
-
-// The marked numbers of each row, in rising order.
-fn marked_lists(marks: [u64; 64]) -> [usize; 64]
-    ensures { λ r. ⌜ r ≡ listsOf marks ⌝ }
-{
-    let mut r = [0usize; 64];
-    let mut i = 0;
-    while i < 64 {
-        r[i] = marked_at(marks, i / 8, i % 8);
-        i += 1;
-    }
-    r
-}
-
-fn marks_in(marks: [u64; 64], t: usize) -> usize
-    requires { ⌜ t < 8 ⌝ }
-    ensures { λ r. ⌜ r ≡ counted (marked marks t) 8 ⌝ }
-{
-    let mut many = 0;
-    let mut k = 0;
-    while k < 8 {
-        let c = k;
-        k += 1;
-        if marks[8 * t + c] == 1 {
-            many += 1;
-        }
-    }
-    many
-}
-
 // How many columns the rows of a part have: none for an unkept table, the listed columns for the list.
 fn columns_in(sheet: &[u64], kept: [u64; 8], shows: [u64; 64], part: usize) -> usize
     requires { ⌜ GoodSheet (now sheet) × ((kept ≡ keptOf (sheetOf (now sheet)))
@@ -140,7 +94,7 @@ fn columns_in(sheet: &[u64], kept: [u64; 8], shows: [u64; 64], part: usize) -> u
     if kept[part] == 0 {
         return 0;
     }
-    marks_in(shows, part)
+    marks_before(shows, part, 8)
 }
 
 fn columns_of(sheet: &[u64], kept: [u64; 8], shows: [u64; 64]) -> [usize; 9]
@@ -180,13 +134,13 @@ fn size_of(sheet: &[u64], rooms: [usize; 9], columns: [usize; 9], part: usize) -
     rooms[part] * columns[part]
 }
 
-// Where each part begins: behind the nine counts and the parts before it.
-fn starts_of(sheet: &[u64], rooms: [usize; 9], columns: [usize; 9]) -> [usize; 9]
+// Where each part begins: behind the nine counts and the parts before it. Behind the list stands the store's end.
+fn starts_of(sheet: &[u64], rooms: [usize; 9], columns: [usize; 9]) -> [usize; 10]
     requires { ⌜ GoodSheet (now sheet) × ((rooms ≡ roomsOf (sheetOf (now sheet))) × (columns ≡ columnsOf (sheetOf (now sheet)))) ⌝ }
     ensures { λ r. ⌜ r ≡ startsOf (sheetOf (now (sheet .entry))) ⌝ }
 {
     let m = sheet::tables(sheet) + 1;
-    let mut r = [0usize; 9];
+    let mut r = [0usize; 10];
     let mut at: usize = 9;
     let mut part = 0;
     while part < m {
@@ -194,18 +148,8 @@ fn starts_of(sheet: &[u64], rooms: [usize; 9], columns: [usize; 9]) -> [usize; 9
         at += size_of(sheet, rooms, columns, part);
         part += 1;
     }
+    r[m] = at;
     r
-}
-
-// The store's length: where the list begins, and the list's room.
-fn store_of(sheet: &[u64], rooms: [usize; 9], columns: [usize; 9], starts: [usize; 9]) -> usize
-    requires { ⌜ GoodSheet (now sheet) × ((rooms ≡ roomsOf (sheetOf (now sheet)))
-        × ((columns ≡ columnsOf (sheetOf (now sheet))) × (starts ≡ startsOf (sheetOf (now sheet))))) ⌝ }
-    ensures { λ r. ⌜ r ≡ storeLength (sheetOf (now (sheet .entry))) ⌝ }
-{
-    let n = sheet::tables(sheet);
-    let last = size_of(sheet, rooms, columns, n);
-    starts[n] + last
 }
 
 // The plan of a good sheet.
@@ -221,7 +165,9 @@ fn plan_for(sheet: &[u64]) -> Plan
     let columns = columns_of(sheet, kept, shows);
     let rooms = rooms_of(sheet);
     let starts = starts_of(sheet, rooms, columns);
-    let store = store_of(sheet, rooms, columns, starts);
+    let store = starts[tables + 1];
+    let order = order_of(sheet, root);
+    let places = places_of(shows);
     Plan {
         tables: tables,
         root: root,
@@ -232,6 +178,8 @@ fn plan_for(sheet: &[u64]) -> Plan
         columns: columns,
         rooms: rooms,
         starts: starts,
+        order: order,
+        places: places,
     }
 }
 
@@ -247,7 +195,9 @@ fn empty_plan() -> Plan
         shown: [0usize; 64],
         columns: [0usize; 9],
         rooms: [0usize; 9],
-        starts: [0usize; 9],
+        starts: [0usize; 10],
+        order: [0usize; 8],
+        places: [0usize; 64],
     }
 }
 

@@ -70,7 +70,7 @@ module _ (sheet store : Words) (part : ℕ) where
       part-in = omega (arith, accepted zero-is .1, plan-is .tables-are, plan-is .tables-few)
 
       start-is : getD (c .plan .starts) part 0 ≡ start (sheetOf sheet) part
-      start-is = plan-is .starts-at part (accepted zero-is .1)
+      start-is = plan-is .starts-at part (omega (arith, accepted zero-is .1))
 
       pub shown-rows : Shown sheet store part 0 (getD (c .plan .starts) part 0) (length words)
       unfolding firstOf show stretchOf

@@ -24,7 +24,7 @@ use Rattle.laws.proofs.Trees.{child-of}
 use Rattle.derive.proofs.Paths.{dep-edge}
 use Rattle.sheet.proofs.Numbers.{member-chosen}
 use Rattle.layout.specs.Plans.{keptOf, keptAt, showsAt, showsOf, startsOf, roomsOf, planFor, checkedOf}
-use Rattle.layout.specs.Planned.{Planned}
+use Rattle.layout.specs.Planned.{Lengths, Planned}
 use Rattle.layout.proofs.Chosen.{filled-same}
 use Rattle.layout.proofs.Shown.{has-column}
 use Rattle.layout.proofs.Planning.{plan-facts, good-plan, planned}
@@ -198,5 +198,9 @@ module _ (ws : Words) (r : Checked) (e : r ≡ checkedOf ws) where
         → a ≡ answerFor (r .plan) deps needs → a ≡ laid (plan ws)
     plan-good a deps needs d n q = rw (e, d, n) at q ∙ answer-good ws not-refused
 
-    pub tables-few : r .plan .tables ≤ 8
-    tables-few = subst (λ (p : Plan). p .tables ≤ 8) (sym (ap (λ (c : Checked). c .plan) e)) (planned ws not-refused .tables-few)
+    facts : Planned (sheetOf ws) (r .plan)
+    facts = subst (λ (p : Plan). Planned (sheetOf ws) p) (sym (ap (λ (c : Checked). c .plan) e)) (planned ws not-refused)
+
+    -- what the answer is made from: at most eight tables, and arrays that are long enough
+    pub answerable : (r .plan .tables ≤ 8) × Lengths (r .plan)
+    answerable = (facts .tables-few, facts .lengths)

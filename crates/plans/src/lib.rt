@@ -4,9 +4,11 @@ use layout::mark_of;
 use sheet::Verdict;
 ghost use mathlib.Core.Path.{_≡_};
 ghost use Prim.Native.Nat.{ℕ, _≤_, _<_};
+ghost use lib.ListN.{length};
 ghost use Rattle.meaning.specs.Plan.{plan};
 ghost use Rattle.meaning.specs.Sheet.{sheetOf};
 ghost use Rattle.sheet.specs.Tree.{GoodSheet};
+ghost use Rattle.layout.specs.Planned.{Lengths};
 ghost use Rattle.plans.specs.Answers.{depOf, needAt, needOf, keptColumn, keptColumns, firstParts, answerFor, refusedAnswer, laid};
 
 // What is printed of the plan, with each table's place and room. Every other field is zero where the sheet is refused.
@@ -90,9 +92,10 @@ fn kept_columns(kept: [u64; 8], shows: [u64; 64]) -> [u64; 64]
 }
 
 // What stands at the first n of the parts: the tables'.
-fn first_parts(parts: [usize; 9], n: usize) -> [usize; 8]
+fn first_parts(parts: &[usize], n: usize) -> [usize; 8]
     requires { ⌜ n ≤ 8 ⌝ }
-    ensures { λ r. ⌜ r ≡ firstParts parts n ⌝ }
+    requires { ⌜ n ≤ length (now parts) ⌝ }
+    ensures { λ r. ⌜ r ≡ firstParts (now (parts .entry)) n ⌝ }
 {
     let mut r = [0usize; 8];
     let mut t = 0;
@@ -106,6 +109,7 @@ fn first_parts(parts: [usize; 9], n: usize) -> [usize; 8]
 // The answer from the plan that every call has, and the marks of Dep and Need, which this call alone shows.
 fn answer_for(p: Plan, dep: [u64; 64], need: [u64; 64]) -> PlanAnswer
     requires { ⌜ p .tables ≤ 8 ⌝ }
+    requires { ⌜ Lengths p ⌝ }
     ensures { λ a. ⌜ a ≡ answerFor p dep need ⌝ }
 {
     let n = p.tables;
@@ -114,8 +118,8 @@ fn answer_for(p: Plan, dep: [u64; 64], need: [u64; 64]) -> PlanAnswer
     let all_starts = p.starts;
     let all_rooms = p.rooms;
     let columns = kept_columns(kept, shows);
-    let starts = first_parts(all_starts, n);
-    let rooms = first_parts(all_rooms, n);
+    let starts = first_parts(&all_starts, n);
+    let rooms = first_parts(&all_rooms, n);
     PlanAnswer {
         number: 0,
         tables: n,

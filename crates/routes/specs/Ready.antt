@@ -1,4 +1,4 @@
--- All that a change below its tests rests on: a good sheet, its plan and its route, and a store that is sound for it.
+-- All that a change below its tests rests on: a good sheet, its plan, by which its walks go, and a store that is sound for it.
 -- Assumes nothing.
 use lib.Dec.{T}
 use Rattle.lists.specs.Lists.{Words}
@@ -6,14 +6,17 @@ use Rattle.meaning.specs.Sheet.{sheetOf}
 use Rattle.meaning.specs.Store.{sound}
 use Rattle.sheet.specs.Tree.{GoodSheet}
 use Rattle.layout.specs.declared.Plan.{Plan}
+use Rattle.ways.specs.Routes.{Route, route}
 use Rattle.ways.specs.Grounds.{Routed}
 use Rattle.store.specs.Plans.{GoodPlan}
-use Rattle.routes.specs.declared.Route.{Route}
-use Rattle.routes.specs.Arrays.{routeOf}
 
-pub record Ready (ws store : Words) (plan : Plan) (p : Route) : Type 0 where
+-- what a walk reads of the plan
+abbrev pub routeOf : Plan → Route
+routeOf p = route (p .root) (p .order) (p .starts) (p .columns) (p .places)
+
+pub record Ready (ws store : Words) (plan : Plan) : Type 0 where
   -- its words are within their rules (.joined .rules), and it is not refused (.not-refused)
   pub sheet : GoodSheet ws
   pub planned : GoodPlan (sheetOf ws) plan
-  pub routed : Routed ws (routeOf p)
+  pub routed : Routed ws (routeOf plan)
   pub sound : T (sound (sheetOf ws) store)

@@ -40,7 +40,7 @@ module _ (s : Sheet) (p : Plan) (plan : GoodPlan s p) where
       (record {
         number-in = l;
         slot-is = ap (λ (n : ℕ). cond (ltb number n) number 8) tables-is;
-        start-is = plan .planned .starts-at number l;
+        start-is = plan .planned .starts-at number (omega arith);
         columns-is = plan .planned .columns-at number l;
         room-is = plan .planned .rooms-at number l;
       })

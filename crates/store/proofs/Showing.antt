@@ -25,7 +25,7 @@ use Rattle.store.proofs.Parts.{words-length}
 use Rattle.store.proofs.Lying.{count-is, lies-kept}
 use Rattle.store.proofs.Plans.{tables-is, store-is, part-lies}
 use Rattle.store.proofs.Checks.{check-good, check-plan, check-refused, check-numbered}
-use Rattle.store.proofs.Shows.{shows-sheet, shows-4, shows-5, shows-7, shows-0}
+use Rattle.store.proofs.Shows.{shows-sheet, shows-length, shows-no-part, shows-unsound, shows-rows}
 
 -- the part that an accepted call shows
 pub record Shown (sheet store : Words) (number : ℕ) (q : Part) : Type 0 where
@@ -65,11 +65,11 @@ module _ (sheet store : Words) (number : ℕ) (c : Checked) (e : c ≡ checkedOf
     long-is = store-is (sheetOf sheet) (c .plan) plan
 
     pub show-length : (length store ≡ c .plan .store → ⊥) → Gives sheet store number [] 4
-    show-length d = shows-4 sheet store number good (λ q. d (q ∙ sym long-is))
+    show-length d = shows-length sheet store number good (λ q. d (q ∙ sym long-is))
 
     module _ (l : length store ≡ c .plan .store) where
       pub show-number : c .plan .tables < number → Gives sheet store number [] 5
-      show-number m = shows-5 sheet store number good (l ∙ long-is) (omega (arith, tables))
+      show-number m = shows-no-part sheet store number good (l ∙ long-is) (omega (arith, tables))
 
       module _ (m : number ≤ c .plan .tables) (b : Bool) (is : SoundIs (c .plan) store b) where
         inside : number ≤ sheetOf sheet .n
@@ -79,7 +79,7 @@ module _ (sheet store : Words) (number : ℕ) (c : Checked) (e : c ≡ checkedOf
         found = sym (is .is (sheetOf sheet) plan)
 
         pub show-unsound : b ≡ false → Gives sheet store number [] 7
-        show-unsound f = shows-7 sheet store number good (l ∙ long-is) inside (found ∙ f)
+        show-unsound f = shows-unsound sheet store number good (l ∙ long-is) inside (found ∙ f)
 
         module _ (t : b ≡ true) (q : Part) (p : q ≡ partOf (c .plan) number) where
           lies : Lies (sheetOf sheet) number q
@@ -94,6 +94,6 @@ module _ (sheet store : Words) (number : ℕ) (c : Checked) (e : c ≡ checkedOf
                     (sound-stands (sheetOf sheet) (plan .good) store (isT (found ∙ t)));
                 rows =
                     subst (λ (w : Words). Gives sheet store number w 0) (sym (stretch-is (sheetOf sheet) number q lies store))
-                    (shows-0 sheet store number good (l ∙ long-is) inside (found ∙ t));
+                    (shows-rows sheet store number good (l ∙ long-is) inside (found ∙ t));
                 place = lies .start-is;
               }

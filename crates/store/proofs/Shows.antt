@@ -46,21 +46,21 @@ module _ (sheet store : Words) (part : ℕ) where
   shows-sheet (suc k) e d = refusal k (rw e)
 
   module _ (good : sheetRefusal sheet ≡ 0) where
-    pub shows-4 : (length store ≡ storeLength (sheetOf sheet) → ⊥) → Gives sheet store part [] 4
+    pub shows-length : (length store ≡ storeLength (sheetOf sheet) → ⊥) → Gives sheet store part [] 4
     unfolding showRefusal
-    shows-4 d = refusal 3 (rw (good, ne-eqb _ _ d))
+    shows-length d = refusal 3 (rw (good, ne-eqb _ _ d))
 
-    pub shows-5 : length store ≡ storeLength (sheetOf sheet) → sheetOf sheet .n < part → Gives sheet store part [] 5
+    pub shows-no-part : length store ≡ storeLength (sheetOf sheet) → sheetOf sheet .n < part → Gives sheet store part [] 5
     unfolding showRefusal
-    shows-5 e l = refusal 4 (rw (good, eq-eqb _ _ e, lt-leb _ _ l))
+    shows-no-part e l = refusal 4 (rw (good, eq-eqb _ _ e, lt-leb _ _ l))
 
-    pub shows-7 : length store ≡ storeLength (sheetOf sheet) → part ≤ sheetOf sheet .n → sound (sheetOf sheet) store ≡ false → Gives sheet store part [] 7
+    pub shows-unsound : length store ≡ storeLength (sheetOf sheet) → part ≤ sheetOf sheet .n → sound (sheetOf sheet) store ≡ false → Gives sheet store part [] 7
     unfolding showRefusal
-    shows-7 e l h = refusal 6 (rw (good, eq-eqb _ _ e, le-leb _ _ l, h))
+    shows-unsound e l h = refusal 6 (rw (good, eq-eqb _ _ e, le-leb _ _ l, h))
 
-    pub shows-0 : length store ≡ storeLength (sheetOf sheet) → part ≤ sheetOf sheet .n → sound (sheetOf sheet) store ≡ true
+    pub shows-rows : length store ≡ storeLength (sheetOf sheet) → part ≤ sheetOf sheet .n → sound (sheetOf sheet) store ≡ true
         → Gives sheet store part (stretchOf (sheetOf sheet) store part) 0
     unfolding show showRefusal
-    shows-0 e l h =
+    shows-rows e l h =
         let none : showRefusal sheet store part ≡ 0 = rw (good, eq-eqb _ _ e, le-leb _ _ l, h) in
         record { words-are = rw none; number-is = sym none }

@@ -21,7 +21,6 @@ use Rattle.effects.specs.Applied.{replacedRows}
 use Rattle.effects.proofs.Marking.{replaced-walks, shows-walks}
 use Rattle.layout.specs.declared.Plan.{Plan}
 use Rattle.list_part.specs.Gives.{gives, given}
-use Rattle.routes.specs.declared.Route.{Route}
 use Rattle.ways.specs.Climbing.{ByKey}
 use Rattle.store.specs.declared.Part.{Part}
 use Rattle.store.specs.Parts.{stopOf, wordsIn, countIn, rowsIn, Kept, Wrote}
@@ -55,7 +54,7 @@ module _ (s : Sheet) (m : Model) (t : ℕ) (r : Row) (no-way : T (canTake s t) �
   unfolding foundShow
   shows-no e q = rw (F→≡ (canTake s t) no-way, q, e)
 
-module _ {ws store : Words} {plan : Plan} {p : Route} (rd : Ready ws store plan p) (t : ℕ) (r : Row) (marks : Words) where
+module _ {ws store : Words} {plan : Plan} (rd : Ready ws store plan) (t : ℕ) (r : Row) (marks : Words) where
   by-ways : T (canTake (sheetOf ws) t) → (a : Taken) → WaysTaken ws store t r marks a → ReplacedTaken ws store t r marks a
   by-ways can (All k) h =
       let s = sheetOf ws in

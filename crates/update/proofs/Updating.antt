@@ -23,7 +23,6 @@ use Rattle.effects.proofs.Rows.{side-there}
 use Rattle.effects.proofs.Updates.{update-contradicts-side, update-none, update-contradicts-shown, update-contradicts-list, update-done}
 use Rattle.layout.specs.declared.Plan.{Plan}
 use Rattle.list_part.specs.Gives.{gives}
-use Rattle.routes.specs.declared.Route.{Route}
 use Rattle.ways.specs.Grounds.{Lent}
 use Rattle.store.specs.declared.Part.{Part}
 use Rattle.store.specs.declared.Answer.the-variants.{Done, Refused}
@@ -38,7 +37,7 @@ use Rattle.taken.specs.declared.Taken.{Taken}
 use Rattle.taken.specs.declared.Taken.the-variants.{All, Contrary}
 use Rattle.update.specs.Updates.{ReplacedTaken, Updates}
 
-module _ {ws store : Words} {plan : Plan} {p : Route} (rd : Ready ws store plan p) {t : ℕ} {r : Row} (lent : Lent ws t r) (r′ : Row)
+module _ {ws store : Words} {plan : Plan} (rd : Ready ws store plan) {t : ℕ} {r : Row} (lent : Lent ws t r) (r′ : Row)
     (q : Bool) (eq : q ≡ qualifies (sheetOf ws) (modelOf (sheetOf ws) store) t r) (b : Bool) (eb : b ≡ oldRow (sheetOf ws) (modelOf (sheetOf ws) store) t r) where
   -- the side table contradicts it
   pub updates-contradicts-side : not b ≡ true → Updates ws store t r r′ (Refused 8) store

@@ -4,7 +4,6 @@ use sheet::CONTRADICTION;
 use store::Answer;
 use store::Part;
 use taken::Taken;
-use ways::Route;
 ghost use mathlib.Core.Path.{_≡_};
 ghost use Prim.Native.Nat.{ℕ, _<_, _≤_};
 ghost use lib.ListN.{length, replicate};
@@ -23,27 +22,60 @@ ghost use Rattle.update.specs.Updates.{ReplacedTaken, Updates};
 fn mark_replaced(
     sheet: &[u64],
     plan: Plan,
-    route: Route,
     store: &[u64],
     list: Part,
     table: usize,
     row: &[u64],
     marks: &mut [u16],
 ) -> Taken
-    requires { ⌜ Ready (now sheet) (now store) plan route ⌝ }
+    requires { ⌜ Ready (now sheet) (now store) plan ⌝ }
     requires { ⌜ Lies (sheetOf (now sheet)) (sheetOf (now sheet) .n) list ⌝ }
     requires { ⌜ Lent (now sheet) table (now row) ⌝ }
     requires { ⌜ now marks ≡ replicate 4096 0 ⌝ }
     ensures { λ a. ⌜ ReplacedTaken (now (sheet .entry)) (now (store .entry)) table (now (row .entry)) (now (marks .exit)) a ⌝ }
 {
-    let root = route.root;
+    let root = plan.root;
     if table == root {
-        return taken::mark_ways(sheet, route, store, list, table, row, marks);
+        return taken::mark_ways(
+            sheet,
+            plan.root,
+            &plan.order,
+            &plan.starts,
+            &plan.columns,
+            &plan.places,
+            store,
+            list,
+            table,
+            row,
+            marks,
+        );
     }
     if plan.kept[root] != 0 {
-        return taken::mark_ways(sheet, route, store, list, table, row, marks);
+        return taken::mark_ways(
+            sheet,
+            plan.root,
+            &plan.order,
+            &plan.starts,
+            &plan.columns,
+            &plan.places,
+            store,
+            list,
+            table,
+            row,
+            marks,
+        );
     }
-    taken::mark_found(sheet, route, store, list, table, row, marks)
+    taken::mark_found(
+        sheet,
+        &plan.starts,
+        &plan.columns,
+        &plan.places,
+        store,
+        list,
+        table,
+        row,
+        marks,
+    )
 }
 
 // The marked list rows, k of them, get row's values in table's columns, and the list is put in order.
@@ -66,7 +98,7 @@ fn replace_rows(
 {
     let slot = list.slot;
     let count = store[slot] as usize;
-    list_part::give_rows(sheet, store, list, marks, table as u64, row);
+    list_part::give_rows(sheet, store, list, marks, table, row);
     list_part::settle_rows(store, list, count, k);
 }
 
@@ -74,19 +106,18 @@ fn replace_rows(
 pub fn update(
     sheet: &[u64],
     plan: Plan,
-    route: Route,
     store: &mut [u64],
     table: usize,
     old: &[u64],
     new: &[u64],
 ) -> Answer
-    requires { ⌜ Ready (now sheet) (now store) plan route ⌝ }
+    requires { ⌜ Ready (now sheet) (now store) plan ⌝ }
     requires { ⌜ Lent (now sheet) table (now old) ⌝ }
     requires { ⌜ Lent (now sheet) table (now new) ⌝ }
     requires { ⌜ Tied (sheetOf (now sheet)) table (now old) (now new) ⌝ }
     ensures { λ a. ⌜ Updates (now (sheet .entry)) (now (store .entry)) table (now (old .entry)) (now (new .entry)) a (now (store .exit)) ⌝ }
 {
-    let qualified = ways::is_qualified(sheet, route, store, table, old);
+    let qualified = ways::is_qualified(sheet, &plan.starts, &plan.columns, store, table, old);
     if !side_table::old_row(sheet, plan, store, table, old, qualified) {
         return Answer::Refused(CONTRADICTION);
     }
@@ -95,7 +126,7 @@ pub fn update(
     }
     let list = store::part_of(plan, plan.tables);
     let mut marks = [0u16; 4096];
-    let a = mark_replaced(sheet, plan, route, store, list, table, old, &mut marks);
+    let a = mark_replaced(sheet, plan, store, list, table, old, &mut marks);
     let Taken::All(k) = a else {
         return Answer::Refused(CONTRADICTION);
     };

@@ -24,16 +24,14 @@ use Rattle.store.specs.Plans.{partOf}
 use Rattle.store.proofs.Lying.{wrote-stands}
 use Rattle.store.proofs.Plans.{list-lies}
 use Rattle.side_table.specs.Sides.{Modelled, Sided}
-use Rattle.routes.specs.declared.Route.{Route}
-use Rattle.routes.specs.Arrays.{routeOf}
-use Rattle.routes.specs.Ready.{Ready}
+use Rattle.routes.specs.Ready.{routeOf, Ready}
 
-module _ {ws store : Words} {plan : Plan} {p : Route} (rd : Ready ws store plan p) where
+module _ {ws store : Words} {plan : Plan} (rd : Ready ws store plan) where
   pub ready-good : Good (sheetOf ws)
   ready-good = rd .planned .good
 
-  pub ready-ground : Ground ws store (routeOf p)
-  ready-ground = ground ws store (routeOf p) (rd .sheet .not-refused) (rd .routed) (rd .sound)
+  pub ready-ground : Ground ws store (routeOf plan)
+  ready-ground = ground ws store (routeOf plan) (rd .sheet .not-refused) (rd .routed) (rd .sound)
 
   pub ready-tables : (plan .tables ≤ 8) × (plan .tables ≤ plan .tables)
   ready-tables = (rd .planned .planned .tables-few, omega arith)

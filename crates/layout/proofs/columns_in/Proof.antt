@@ -28,13 +28,13 @@ returns-2 c =
     let at-start = c .before .before .before .before in
     columns-none _ (at-start .pre .0) _ _ (at-start .pre .1 .0) (omega arith) (c .if2 .taken)
 
-marks-in-requires : tie.Need-marks-in-requires
-marks-in-requires c κs = search needs
+marks-before-requires : tie.Need-marks-before-requires
+marks-before-requires c κs = search needs
 
 returns-3 : tie.Need-returns-3
 returns-3 c =
     let at-start = c .before .before .before .before .before in
-    columns-shown _ (at-start .pre .0) _ _ (at-start .pre .1 .0) (omega arith) _ _ (at-start .pre .1 .1 .0) (c .before .if2 .left) (c .marks-in .ensures)
+    columns-shown _ (at-start .pre .0) _ _ (at-start .pre .1 .0) (omega arith) _ _ (at-start .pre .1 .1 .0) (c .before .if2 .left) (c .marks-before .ensures)
 
 pub columns-in-spec : {M : Type 1} → statement M
 columns-in-spec =
@@ -46,5 +46,5 @@ columns-in-spec =
     mul-if2
     array-read-if2
     returns-2
-    marks-in-requires
+    marks-before-requires
     returns-3)

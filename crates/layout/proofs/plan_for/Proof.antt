@@ -29,12 +29,25 @@ rooms-of-requires c κs = search needs
 starts-of-requires : tie.Need-starts-of-requires
 starts-of-requires c κs = search needs
 
-store-of-requires : tie.Need-store-of-requires
-store-of-requires c κs = search needs
+add-store : tie.Need-add-store
+add-store c = search needs
+
+mul-store : tie.Need-mul-store
+mul-store c = search needs
+
+array-read-store : tie.Need-array-read-store
+array-read-store c = search needs
+
+order-of-requires : tie.Need-order-of-requires
+order-of-requires c κs = search needs
+
+places-of-requires : tie.Need-places-of-requires
+places-of-requires c κs = search needs
 
 returns : tie.Need-returns
 returns c =
-    let at-rooms-of = c .before .before in
+    let at-starts-of = c .before .before in
+    let at-rooms-of = at-starts-of .before in
     let at-columns-of = at-rooms-of .before in
     let at-marked-lists = at-columns-of .before in
     let at-shows-marks = at-marked-lists .before in
@@ -42,9 +55,9 @@ returns c =
     let at-root-of = at-kept-marks .before in
     let at-tables = at-root-of .before in
     let at-start = at-tables .before .before in
-    plan-made _ (at-start .pre .joined .rules) _ _ _ _ _ _ _ _ _ (at-tables .tables .ensures) (at-root-of .root-of .ensures) (c .store-of .ensures)
+    plan-made _ (at-start .pre .joined .rules) _ _ _ _ _ _ _ _ _ _ (at-tables .tables .ensures) (at-root-of .root-of .ensures)
     (at-kept-marks .kept-marks .ensures) (at-shows-marks .shows-marks .ensures) (at-marked-lists .marked-lists .ensures) (at-columns-of .columns-of .ensures)
-    (at-rooms-of .rooms-of .ensures) (c .before .starts-of .ensures)
+    (at-rooms-of .rooms-of .ensures) (at-starts-of .starts-of .ensures) (c .before .order-of .ensures) (c .places-of .ensures)
 
 pub plan-for-spec : {M : Type 1} → statement M
 plan-for-spec =
@@ -58,5 +71,9 @@ plan-for-spec =
     columns-of-requires
     rooms-of-requires
     starts-of-requires
-    store-of-requires
+    add-store
+    mul-store
+    array-read-store
+    order-of-requires
+    places-of-requires
     returns)

@@ -1,4 +1,4 @@
--- `starts_of` meets its contract. The loop's invariant: the parts before have their places, and `at` is the place of this one.
+-- `starts_of` meets its contract.
 -- Assumes nothing.
 use Prim.Native.Nat.{_≤_, _-_}
 use mathlib.Core.Path.{_≡_, refl, sym}
@@ -7,9 +7,8 @@ use Rattle.lists.specs.Loops.{filled}
 use Rattle.lists.proofs.Loops.{filled-more}
 use Rattle.meaning.specs.Sheet.{sheetOf}
 use Rattle.meaning.specs.Plan.{start}
-use Rattle.layout.specs.Plans.{startsOf}
 use Rattle.layout.proofs.Sizes.{start-first, start-more, start-small}
-use Rattle.layout.proofs.Steps.{parts-end}
+use Rattle.layout.proofs.Steps.{starts-filled}
 use borrow.Author.Needs.{needs}
 use native.Mathlib.Omega.{arith}
 use Rattle.layout.proofs.starts_of.Statement.{statement}
@@ -17,7 +16,7 @@ use Rattle.layout.proofs.starts_of.Tie as tie
 
 abbrev Inv-loop : tie.InvT-loop
 Inv-loop sheet rooms columns m r₀ at₀ part₀ r at part =
-    (part ≤ m) × ((r ≡ filled (start (sheetOf sheet)) part (replicate 9 0)) × (at ≡ start (sheetOf sheet) part))
+    (part ≤ m) × ((r ≡ filled (start (sheetOf sheet)) part (replicate 10 0)) × (at ≡ start (sheetOf sheet) part))
 
 abbrev μ-loop : tie.MeasureT-loop
 μ-loop sheet rooms columns m r₀ at₀ part₀ r at part = m - part
@@ -63,9 +62,14 @@ loop-again c =
       (filled-more _ _ _ _ _ (at-loop .loop .inv .1 .0) (at-loop .loop .inv .1 .1), start-more _ _ _ _ (at-loop .loop .inv .1 .1) (c .size-of .ensures .0)),
     )
 
+mul-r-2 : tie.Need-mul-r-2 Inv-loop μ-loop
+mul-r-2 c = search needs
+
+array-write-r-2 : tie.Need-array-write-r-2 Inv-loop μ-loop
+array-write-r-2 c = search needs
+
 returns : tie.Need-returns Inv-loop μ-loop
-unfolding startsOf
-returns c = parts-end _ _ _ _ _ (omega arith) (omega arith) (c .before .loop .inv .1 .0)
+returns c = starts-filled _ _ _ _ _ (omega arith) (omega arith) (omega arith) (c .before .loop .inv .1 .0) (c .before .loop .inv .1 .1)
 
 pub starts-of-spec : {M : Type 1} → statement M
 starts-of-spec =
@@ -83,4 +87,6 @@ starts-of-spec =
     add-part
     loop-less
     loop-again
+    mul-r-2
+    array-write-r-2
     returns)

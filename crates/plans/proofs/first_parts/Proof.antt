@@ -12,10 +12,10 @@ use Rattle.plans.proofs.first_parts.Statement.{statement}
 use Rattle.plans.proofs.first_parts.Tie as tie
 
 abbrev Inv-loop : tie.InvT-loop
-Inv-loop n parts r₀ t₀ r t = (t ≤ n) × (r ≡ filled (λ k. getD parts k 0) t (replicate 8 0))
+Inv-loop parts n r₀ t₀ r t = (t ≤ n) × (r ≡ filled (λ k. getD parts k 0) t (replicate 8 0))
 
 abbrev μ-loop : tie.MeasureT-loop
-μ-loop n parts r₀ t₀ r t = n - t
+μ-loop parts n r₀ t₀ r t = n - t
 
 loop-holds : tie.Need-loop-holds Inv-loop μ-loop
 unfolding filled
@@ -24,8 +24,8 @@ loop-holds c = search needs
 mul-r : tie.Need-mul-r Inv-loop μ-loop
 mul-r c = search needs
 
-array-read-r : tie.Need-array-read-r Inv-loop μ-loop
-array-read-r c = search needs
+shared-slice-read-r : tie.Need-shared-slice-read-r Inv-loop μ-loop
+shared-slice-read-r c = search needs
 
 mul-r-2 : tie.Need-mul-r-2 Inv-loop μ-loop
 mul-r-2 c = search needs
@@ -40,7 +40,7 @@ loop-less : tie.Need-loop-less Inv-loop μ-loop
 loop-less c = search needs
 
 loop-again : tie.Need-loop-again Inv-loop μ-loop
-loop-again c = (omega arith, filled-more _ _ _ _ _ (c .before .loop .inv .1) refl)
+loop-again c = (omega arith, filled-more _ _ _ _ _ (c .before .before .loop .inv .1) refl)
 
 returns : tie.Need-returns Inv-loop μ-loop
 unfolding firstParts
@@ -54,7 +54,7 @@ first-parts-spec =
     μ-loop
     loop-holds
     mul-r
-    array-read-r
+    shared-slice-read-r
     mul-r-2
     array-write-r
     add-t

@@ -3,7 +3,7 @@
 use mathlib.Core.Path.{ap, _∙_}
 use Rattle.sheet.specs.Verdicts.{numberOf}
 use Rattle.plans.specs.Answers.{refusedAnswer}
-use Rattle.plans.proofs.Laid.{sheet-good, plan-good, plan-refused, tables-few}
+use Rattle.plans.proofs.Laid.{sheet-good, plan-good, plan-refused, answerable}
 use borrow.Author.Needs.{needs}
 use Rattle.plans.proofs.plan_of.Statement.{statement}
 use Rattle.plans.proofs.plan_of.Tie as tie
@@ -43,7 +43,7 @@ answer-for-requires : tie.Need-answer-for-requires
 answer-for-requires c κs =
     let at-enum-told = c .before .before in
     let at-check = at-enum-told .before .before .before in
-    tables-few _ _ (at-check .check .ensures) (at-enum-told .enum-told .given .1)
+    answerable _ _ (at-check .check .ensures) (at-enum-told .enum-told .given .1)
 
 returns-2 : tie.Need-returns-2
 returns-2 c =

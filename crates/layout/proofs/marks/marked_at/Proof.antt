@@ -8,8 +8,8 @@ use Rattle.layout.specs.Marks.{marked}
 use Rattle.layout.proofs.Steps.{marked-found, marked-past, marked-yes, marked-no}
 use borrow.Author.Needs.{needs}
 use native.Mathlib.Omega.{arith}
-use Rattle.layout.proofs.marked_at.Statement.{statement}
-use Rattle.layout.proofs.marked_at.Tie as tie
+use Rattle.layout.proofs.marks.marked_at.Statement.{statement}
+use Rattle.layout.proofs.marks.marked_at.Tie as tie
 
 abbrev Inv-loop : tie.InvT-loop
 Inv-loop t j marks many₀ k₀ many k = (k ≤ 8) × ((many ≤ j) × ((many ≤ k) × (many ≡ counted (marked marks t) k)))

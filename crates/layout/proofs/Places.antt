@@ -17,11 +17,11 @@ use Rattle.sheet.specs.Counted.{counted}
 use Rattle.sheet.specs.Rules.{Rules}
 use Rattle.laws.proofs.Lists.{select-append}
 use Rattle.sheet.proofs.Numbers.{length-upTo}
 use Rattle.layout.specs.Marks.{marked, markedIn}
 use Rattle.layout.specs.Plans.{showsOf}
 use Rattle.layout.proofs.Chosen.{upTo-split}
 use Rattle.layout.proofs.Shown.{marked-columns}
-use Rattle.outward.specs.Places.{placeNo, placesOf}
+use Rattle.layout.specs.Marks.{placeNo, placesOf}
 
 -- the first c stands behind what is not c
 place-behind : (c : ℕ) (xs ys : List ℕ) → (Mem c xs → ⊥) → placeOf c (xs ++ (c ∷ ys)) ≡ length xs

@@ -8,8 +8,8 @@ use Rattle.lists.proofs.Loops.{filled-more, filled-end}
 use Rattle.layout.specs.Marks.{markedAt, listsOf}
 use borrow.Author.Needs.{needs}
 use native.Mathlib.Omega.{arith}
-use Rattle.layout.proofs.marked_lists.Statement.{statement}
-use Rattle.layout.proofs.marked_lists.Tie as tie
+use Rattle.layout.proofs.marks.marked_lists.Statement.{statement}
+use Rattle.layout.proofs.marks.marked_lists.Tie as tie
 
 abbrev Inv-loop : tie.InvT-loop
 Inv-loop marks r₀ i₀ r i = (i ≤ 64) × (r ≡ filled (λ k. markedAt marks (k / 8) (k % 8)) i (replicate 64 0))
