@@ -66,25 +66,25 @@ module _ {ws store : Words} {plan : Plan} (rd : Ready ws store plan) (t : ℕ) (
       inr (shows-walks s m t r can, rw (replaced-walks s m t r can) h)
 
   -- the row is one of the root's
-  pub by-root : t ≡ p .root → (a : Taken) → WaysTaken ws store t r marks a → ReplacedTaken ws store t r marks a
+  pub by-root : t ≡ plan .root → (a : Taken) → WaysTaken ws store t r marks a → ReplacedTaken ws store t r marks a
   unfolding canTake
-  by-root e a h = by-ways (or-inl (eqb t (root (sheetOf ws))) (kept (sheetOf ws) (root (sheetOf ws))) (eq→eqb (e ∙ rd .routed .root-is))) a h
+  by-root e a h = by-ways (or-inl (eqb t (root (sheetOf ws))) (kept (sheetOf ws) (root (sheetOf ws))) (eq→eqb (e ∙ rd .planned .planned .root-is))) a h
 
-  root-kept : (getD (plan .kept) (p .root) 0 ≡ 0 → ⊥) → T (kept (sheetOf ws) (root (sheetOf ws)))
-  root-kept d = marked (sheetOf ws) plan (rd .planned) (root (sheetOf ws)) (ready-good rd .root-in) (λ e. d (ap (λ (u : ℕ). getD (plan .kept) u 0) (rd .routed .root-is) ∙ e))
+  root-kept : (getD (plan .kept) (plan .root) 0 ≡ 0 → ⊥) → T (kept (sheetOf ws) (root (sheetOf ws)))
+  root-kept d = marked (sheetOf ws) plan (rd .planned) (root (sheetOf ws)) (ready-good rd .root-in) (λ e. d (ap (λ (u : ℕ). getD (plan .kept) u 0) (rd .planned .planned .root-is) ∙ e))
 
   -- the root has a side table
-  pub by-kept : (getD (plan .kept) (p .root) 0 ≡ 0 → ⊥) → (a : Taken) → WaysTaken ws store t r marks a → ReplacedTaken ws store t r marks a
+  pub by-kept : (getD (plan .kept) (plan .root) 0 ≡ 0 → ⊥) → (a : Taken) → WaysTaken ws store t r marks a → ReplacedTaken ws store t r marks a
   unfolding canTake
   by-kept d a h = by-ways (or-inr (eqb t (root (sheetOf ws))) (kept (sheetOf ws) (root (sheetOf ws))) (root-kept d)) a h
 
   -- neither
-  module _ (d : t ≡ p .root → ⊥) (e : getD (plan .kept) (p .root) 0 ≡ 0) where
+  module _ (d : t ≡ plan .root → ⊥) (e : getD (plan .kept) (plan .root) 0 ≡ 0) where
     pub no-way : ByKey ws t
     unfolding canTake
     no-way h =
-        ⊎-elim (λ k. d (eqb→≡ t (root (sheetOf ws)) k ∙ sym (rd .routed .root-is)))
-        (λ k. unmarked (sheetOf ws) plan (rd .planned) (root (sheetOf ws)) (ready-good rd .root-in) (ap (λ (u : ℕ). getD (plan .kept) u 0) (sym (rd .routed .root-is)) ∙ e) k)
+        ⊎-elim (λ k. d (eqb→≡ t (root (sheetOf ws)) k ∙ sym (rd .planned .planned .root-is)))
+        (λ k. unmarked (sheetOf ws) plan (rd .planned) (root (sheetOf ws)) (ready-good rd .root-in) (ap (λ (u : ℕ). getD (plan .kept) u 0) (sym (rd .planned .planned .root-is)) ∙ e) k)
         (or-cases (eqb t (root (sheetOf ws))) (kept (sheetOf ws) (root (sheetOf ws))) h)
 
     pub by-key : (a : Taken) → FoundTaken ws store t r marks a → ReplacedTaken ws store t r marks a

@@ -7,37 +7,60 @@ use Rattle.apply.proofs.apply.Statement.{statement}
 use Rattle.apply.proofs.apply.Tie as tie
 
 insert-requires : tie.Need-insert-requires
-insert-requires c κs = (c .before .before .before .before .before .before .pre .0, inserts _ _ _ _ _ (c .before .before .before .before .before .before .pre .1) (c .before .match .keys1))
+insert-requires c κs =
+    let at-match = c .before in
+    let at-start = at-match .before .before .before .before .before in
+    (at-start .pre .0, inserts _ _ _ _ _ (at-start .pre .1) (at-match .match .keys1))
 
 delete-requires : tie.Need-delete-requires
-delete-requires c κs = (c .before .before .before .before .before .before .pre .0, deletes _ _ _ _ _ (c .before .before .before .before .before .before .pre .1) (c .before .match .keys2))
+delete-requires c κs =
+    let at-match = c .before in
+    let at-start = at-match .before .before .before .before .before in
+    (at-start .pre .0, deletes _ _ _ _ _ (at-start .pre .1) (at-match .match .keys2))
 
 update-requires : tie.Need-update-requires
-update-requires c κs = (c .before .before .before .before .before .before .pre .0, updates _ _ _ _ _ (c .before .before .before .before .before .before .pre .1) (c .before .before .before .before .before .before .pre .0 .planned .good) (c .before .match .keys3))
+update-requires c κs =
+    let at-match = c .before in
+    let at-start = at-match .before .before .before .before .before in
+    (at-start .pre .0, updates _ _ _ _ _ (at-start .pre .1) (at-start .pre .0 .planned .good) (at-match .match .keys3))
 
 same-length : tie.Need-same-length
 same-length c = search needs
 
 returns : tie.Need-returns
-returns c = applies _ _ _ _ _ (c .before .before .before .before .before .before .before .before .before .pre .1) _ _ _ (c .before .before .before .before .before .before .before .before .before .pre .0) _ _ 1 (c .before .before .before .before .match .keys1) (c .before .before .insert .ensures .says _)
+returns c =
+    let at-insert = c .before .before in
+    let at-match = at-insert .before .before in
+    let at-start = at-match .before .before .before .before .before in
+    applies _ _ _ _ _ (at-start .pre .1) _ _ (at-start .pre .0) _ _ 1 (at-match .match .keys1) (at-insert .insert .ensures .says _)
 
 same-length-2 : tie.Need-same-length-2
 same-length-2 c = search needs
 
 returns-2 : tie.Need-returns-2
-returns-2 c = applies _ _ _ _ _ (c .before .before .before .before .before .before .before .before .before .pre .1) _ _ _ (c .before .before .before .before .before .before .before .before .before .pre .0) _ _ 2 (c .before .before .before .before .match .keys2) (c .before .before .delete .ensures .says _)
+returns-2 c =
+    let at-delete = c .before .before in
+    let at-match = at-delete .before .before in
+    let at-start = at-match .before .before .before .before .before in
+    applies _ _ _ _ _ (at-start .pre .1) _ _ (at-start .pre .0) _ _ 2 (at-match .match .keys2) (at-delete .delete .ensures .says _)
 
 same-length-3 : tie.Need-same-length-3
 same-length-3 c = search needs
 
 returns-3 : tie.Need-returns-3
-returns-3 c = applies _ _ _ _ _ (c .before .before .before .before .before .before .before .before .before .pre .1) _ _ _ (c .before .before .before .before .before .before .before .before .before .pre .0) _ _ 3 (c .before .before .before .before .match .keys3) (c .before .before .update .ensures .says)
+returns-3 c =
+    let at-update = c .before .before in
+    let at-match = at-update .before .before in
+    let at-start = at-match .before .before .before .before .before in
+    applies _ _ _ _ _ (at-start .pre .1) _ _ (at-start .pre .0) _ _ 3 (at-match .match .keys3) (at-update .update .ensures .says)
 
 returns-4 : tie.Need-returns-4
-returns-4 c = absurd (no-other _ _ _ _ _ (c .before .before .before .before .before .pre .1) (λ q. omega arith) (λ q. omega arith) (λ q. omega arith))
+returns-4 c =
+    absurd (no-other _ _ _ _ _ (c .before .before .before .before .before .pre .1) (λ q. omega arith) (λ q. omega arith) (λ q. omega arith))
 
 returns-5 : tie.Need-returns-5
-returns-5 c = absurd (no-other _ _ _ _ _ (c .before .before .before .before .before .pre .1) (λ q. omega arith) (λ q. omega arith) (λ q. omega arith))
+returns-5 c =
+    absurd (no-other _ _ _ _ _ (c .before .before .before .before .before .pre .1) (λ q. omega arith) (λ q. omega arith) (λ q. omega arith))
 
 pub apply-spec : {M : Type 1} → statement M
 apply-spec =

@@ -1,3 +1,5 @@
+-- `delete` meets its contract.
+-- Assumes nothing.
 use Rattle.list_part.proofs.Lists.{list-kept}
 use Rattle.taken.proofs.Lists.{marks-enough}
 use mathlib.Core.Path.{refl}
@@ -6,86 +8,62 @@ use Rattle.delete.proofs.Deleting.{deletes-contradicts-side, deletes-no
 use borrow.Author.Needs.{needs}
 use Rattle.delete.proofs.delete.Statement.{statement}
 use Rattle.delete.proofs.delete.Tie as tie
-use Rattle.delete.proofs.delete.Reads as reads
-use Rattle.delete.proofs.delete.Lts as lts
-use Rattle.side_table.proofs.old_row.Reads as old-row-reads
-use Rattle.side_table.proofs.take_side.Reads as take-side-reads
-use Rattle.store.proofs.part_of.Reads as part-of-reads
-use Rattle.store.proofs.take_marked.Reads as take-marked-reads
-use Rattle.taken.proofs.mark_ways.Reads as mark-ways-reads
-use Rattle.ways.proofs.is_qualified.Reads as is-qualified-reads
 
--- src/lib.rt:33:9
 is-qualified-requires : tie.Need-is-qualified-requires
-is-qualified-requires c κs = (ready-ground (c .before .before .before .before .pre .0), c .before .before .before .before .pre .1)
+is-qualified-requires c κs =
+    let at-start = c .before .before .before .before .before .before .before in
+    (ready-ground (at-start .pre .0) .legible .laid, at-start .pre .1)
 
--- src/lib.rt:34:9
 old-row-requires : tie.Need-old-row-requires
-old-row-requires c κs = let pre = c .before .before .before .before .before .before .pre in (pre .0 .planned, (ready-table (pre .0) (pre .1), (pre .1 .wide, (pre .0 .sound, c .before .is-qualified .ensures))))
+old-row-requires c κs = let pre = c .before .before .before .before .before .before .before .before .before .pre in (pre .0 .planned, (ready-table (pre .0) (pre .1), (pre .1 .wide, (pre .0 .sound, c .before .is-qualified .ensures))))
 
--- src/lib.rt:35:9
 same-length : tie.Need-same-length
 same-length c = search needs
 
--- src/lib.rt:35:9
 returns : tie.Need-returns
-returns c = let pre = c .before .before .before .before .before .before .before .before .pre in deletes-contradicts-side (pre .0) (pre .1) _ (c .before .before .before .is-qualified .ensures) _ (c .before .old-row .ensures) (c .if1 .taken)
+returns c = let pre = c .before .before .before .before .before .before .before .before .before .before .before .pre in deletes-contradicts-side (pre .0) (pre .1) _ (c .before .before .before .is-qualified .ensures) _ (c .before .old-row .ensures) (c .if1 .taken)
 
--- src/lib.rt:38:9
 same-length-2 : tie.Need-same-length-2
 same-length-2 c = search needs
 
--- src/lib.rt:38:9
 returns-2 : tie.Need-returns-2
-returns-2 c = let pre = c .before .before .before .before .before .before .before .before .before .pre in deletes-none (pre .0) (pre .1) _ (c .before .before .before .before .is-qualified .ensures) _ (c .before .before .old-row .ensures) (c .before .if1 .left) (c .if2 .taken)
+returns-2 c = let pre = c .before .before .before .before .before .before .before .before .before .before .before .before .pre in deletes-none (pre .0) (pre .1) _ (c .before .before .before .before .is-qualified .ensures) _ (c .before .before .old-row .ensures) (c .before .if1 .left) (c .if2 .taken)
 
--- src/lib.rt:40:9
 part-of-requires : tie.Need-part-of-requires
-part-of-requires c κs = let few = ready-tables (c .before .before .before .before .before .before .before .before .before .pre .0) in (few .1, few .0)
+part-of-requires c κs = let few = ready-tables (c .before .before .before .before .before .before .before .before .before .before .before .before .pre .0) in (few .1, few .0)
 
--- src/lib.rt:42:69
 slice-aggregate-mark-ways : tie.Need-slice-aggregate-mark-ways
 slice-aggregate-mark-ways c = search needs
 
--- src/lib.rt:42:9
 mark-ways-requires : tie.Need-mark-ways-requires
-mark-ways-requires c κs = let pre = c .before .before .before .before .before .before .before .before .before .before .before .before .pre in (ready-ground (pre .0), (pre .0 .sound, (ready-list (pre .0) _ (c .before .before .part-of .ensures), (pre .1, refl))))
+mark-ways-requires c κs = let pre = c .before .before .before .before .before .before .before .before .before .before .before .before .before .before .before .before .before .before .before .before .pre in (ready-ground (pre .0), (pre .0 .sound, (ready-list (pre .0) _ (c .before .before .before .before .before .before .before .part-of .ensures), (pre .1, refl))))
 
--- src/lib.rt:43:20
 enum-known-a : tie.Need-enum-known-a
 enum-known-a c = search needs
 
--- src/lib.rt:44:9
 enum-told : tie.Need-enum-told
 enum-told c = search needs
 
--- src/lib.rt:44:9
 same-length-3 : tie.Need-same-length-3
 same-length-3 c = search needs
 
--- src/lib.rt:44:9
 returns-3 : tie.Need-returns-3
-returns-3 c = let pre = c .before .before .before .before .before .before .before .before .before .before .before .before .before .before .before .before .pre in deletes-contradicts-list (pre .0) (pre .1) _ (c .before .before .before .before .before .before .before .before .before .before .before .is-qualified .ensures) _ (c .before .before .before .before .before .before .before .before .before .old-row .ensures) (c .before .before .before .before .before .before .before .before .if1 .left) (c .before .before .before .before .before .before .before .if2 .left) _ _ (c .before .before .before .mark-ways .ensures) (c .enum-told .given .1)
+returns-3 c = let pre = c .before .before .before .before .before .before .before .before .before .before .before .before .before .before .before .before .before .before .before .before .before .before .before .before .pre in deletes-contradicts-list (pre .0) (pre .1) _ (c .before .before .before .before .before .before .before .before .before .before .before .before .before .before .before .before .is-qualified .ensures) _ (c .before .before .before .before .before .before .before .before .before .before .before .before .before .before .old-row .ensures) (c .before .before .before .before .before .before .before .before .before .before .before .before .before .if1 .left) (c .before .before .before .before .before .before .before .before .before .before .before .before .if2 .left) _ _ (c .before .before .before .mark-ways .ensures) (c .enum-told .given .1)
 
--- src/lib.rt:46:37
 slice-aggregate-take-marked : tie.Need-slice-aggregate-take-marked
 slice-aggregate-take-marked c = search needs
 
--- src/lib.rt:46:5
 take-marked-requires : tie.Need-take-marked-requires
-take-marked-requires c κs = let pre = c .before .before .before .before .before .before .before .before .before .before .before .before .before .before .before .before .before .before .before .pre in let lies = ready-list (pre .0) _ (c .before .before .before .before .before .before .before .before .before .part-of .ensures) in (list-kept _ (ready-good (pre .0)) _ (pre .0 .sound) _ lies, marks-enough _ (ready-good (pre .0)) _ (pre .0 .sound) _ lies (c .before .before .before .before .before .before .mark-ways .last .1 .1 .1 .1 .1 .1 .0) (c .before .before .before .before .before .marks2 .given))
+take-marked-requires c κs = let pre = c .before .before .before .before .before .before .before .before .before .before .before .before .before .before .before .before .before .before .before .before .before .before .before .before .before .before .before .pre in let lies = ready-list (pre .0) _ (c .before .before .before .before .before .before .before .before .before .before .before .before .before .before .part-of .ensures) in (list-kept _ (ready-good (pre .0)) _ (pre .0 .sound) _ lies, marks-enough _ (ready-good (pre .0)) _ (pre .0 .sound) _ lies (c .before .before .before .before .before .before .mark-ways .last .1 .1 .1 .1 .1 .1 .1 .1 .1 .1 .0) (c .before .before .before .before .before .marks2 .given))
 
--- src/lib.rt:47:5
 take-side-requires : tie.Need-take-side-requires
-take-side-requires c κs = let pre = c .before .before .before .before .before .before .before .before .before .before .before .before .before .before .before .before .before .before .before .before .before .before .before .pre in let lies = ready-list (pre .0) _ (c .before .before .before .before .before .before .before .before .before .before .before .before .before .part-of .ensures) in (pre .0 .planned, (ready-table (pre .0) (pre .1), (pre .1 .wide, half-modelled (pre .0) _ lies _ _ (c .before .before .before .take-marked .ensures))))
+take-side-requires c κs = let pre = c .before .before .before .before .before .before .before .before .before .before .before .before .before .before .before .before .before .before .before .before .before .before .before .before .before .before .before .before .before .before .before .pre in let lies = ready-list (pre .0) _ (c .before .before .before .before .before .before .before .before .before .before .before .before .before .before .before .before .before .before .part-of .ensures) in (pre .0 .planned, (ready-table (pre .0) (pre .1), (pre .1 .wide, half-modelled (pre .0) _ lies _ _ (c .before .before .before .take-marked .ensures))))
 
--- src/lib.rt:21:1
 same-length-4 : tie.Need-same-length-4
 same-length-4 c = search needs
 
--- src/lib.rt:21:1
 returns-4 : tie.Need-returns-4
-returns-4 c = let pre = c .before .before .before .before .before .before .before .before .before .before .before .before .before .before .before .before .before .before .before .before .before .before .before .before .before .before .pre in let lies = ready-list (pre .0) _ (c .before .before .before .before .before .before .before .before .before .before .before .before .before .before .before .before .part-of .ensures) in deletes-done (pre .0) (pre .1) _ (c .before .before .before .before .before .before .before .before .before .before .before .before .before .before .before .before .before .before .before .before .before .is-qualified .ensures) _ (c .before .before .before .before .before .before .before .before .before .before .before .before .before .before .before .before .before .before .before .old-row .ensures) (c .before .before .before .before .before .before .before .before .before .before .before .before .before .before .before .before .before .before .if1 .left) (c .before .before .before .before .before .before .before .before .before .before .before .before .before .before .before .before .before .if2 .left) _ _ (c .before .before .before .before .before .before .before .before .before .before .before .before .before .mark-ways .ensures) _ lies _ (c .before .before .before .before .before .before .take-marked .ensures) _ (c .before .before .before .before .before .before .before .before .before .before .a .given .1) _ (c .before .before .take-side .ensures)
+returns-4 c = let pre = c .before .before .before .before .before .before .before .before .before .before .before .before .before .before .before .before .before .before .before .before .before .before .before .before .before .before .before .before .before .before .before .before .before .before .pre in let lies = ready-list (pre .0) _ (c .before .before .before .before .before .before .before .before .before .before .before .before .before .before .before .before .before .before .before .before .before .part-of .ensures) in deletes-done (pre .0) (pre .1) _ (c .before .before .before .before .before .before .before .before .before .before .before .before .before .before .before .before .before .before .before .before .before .before .before .before .before .before .is-qualified .ensures) _ (c .before .before .before .before .before .before .before .before .before .before .before .before .before .before .before .before .before .before .before .before .before .before .before .before .old-row .ensures) (c .before .before .before .before .before .before .before .before .before .before .before .before .before .before .before .before .before .before .before .before .before .before .before .if1 .left) (c .before .before .before .before .before .before .before .before .before .before .before .before .before .before .before .before .before .before .before .before .before .before .if2 .left) _ _ (c .before .before .before .before .before .before .before .before .before .before .before .before .before .mark-ways .ensures) _ lies _ (c .before .before .before .before .before .before .take-marked .ensures) _ (c .before .before .before .before .before .before .before .before .before .before .a .given .1) _ (c .before .before .take-side .ensures)
 
 pub delete-spec : {M : Type 1} → statement M
 delete-spec =

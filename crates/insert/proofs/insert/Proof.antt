@@ -1,4 +1,4 @@
--- `insert` meets its contract: one law for each of its answers.
+-- `insert` meets its contract.
 -- Assumes nothing.
 use Rattle.list_part.proofs.Lists.{list-room}
 use Rattle.written.proofs.Halves.{ready-good, ready-ground, ready-list, ready-table, half-modelled}
