@@ -42,8 +42,8 @@ unfoldable pub sideRow : Words → Words → ℕ → ℕ → Row
 sideRow ws run t i = pick (shown (sheetOf ws) t) (rowNo (tablesOf ws run) t i)
 
 -- the first k words of it written over a part's words from `place` on
-abbrev pub rowPut : Words → Words → ℕ → ℕ → Words → ℕ → ℕ → Words
-rowPut ws run t i part place k = written part place (sideRow ws run t i) k
+abbrev pub writtenRow : Words → Words → ℕ → ℕ → Words → ℕ → ℕ → Words
+writtenRow ws run t i part place k = written part place (sideRow ws run t i) k
 
 -- the side rows of the qualified ones among the first j rows of table t in key order
 unfoldable pub rowsTo : Words → Words → List ℕ → ℕ → ℕ → Rows

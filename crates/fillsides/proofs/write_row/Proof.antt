@@ -4,7 +4,7 @@ use Prim.Native.Nat.{_-_, _≤_}
 use mathlib.Core.Path.{_≡_, refl}
 use lib.ListN.{length, length-set}
 use Rattle.rows.proofs.Moves.{written-start}
-use Rattle.fillsides.specs.Sides.{rowPut}
+use Rattle.fillsides.specs.Sides.{writtenRow}
 use Rattle.fillsides.proofs.Rows.{column-in, column-more, columns-end}
 use borrow.Author.Needs.{needs}
 use native.Mathlib.Omega.{arith}
@@ -13,7 +13,7 @@ use Rattle.fillsides.proofs.write_row.Tie as tie
 
 abbrev Inv-loop : tie.InvT-loop
 Inv-loop sheet run starts t i columns part₀ place count k₀ part k =
-    (k ≤ count) × (length part ≡ length part₀) × (part ≡ rowPut sheet run t i part₀ place k)
+    (k ≤ count) × (length part ≡ length part₀) × (part ≡ writtenRow sheet run t i part₀ place k)
 
 abbrev μ-loop : tie.MeasureT-loop
 μ-loop sheet run starts t i columns part₀ place count k₀ part k = count - k
