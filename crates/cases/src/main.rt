@@ -228,7 +228,7 @@ fn call_line(line: Line, numbers: &[u8], sheet: &[u64], store: &mut [u64], size:
 
 // The length of the store of a good sheet; if there is no room for it, or of any other sheet, the length that was.
 fn length_for(sheet: &[u64], was: usize) -> usize {
-    let checked = layout::check(sheet);
+    let checked = sheet_plan::check(sheet);
     let plan = checked.plan;
     if plan.tables == 0 {
         return was;

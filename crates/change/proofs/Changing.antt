@@ -19,10 +19,10 @@ use Rattle.sheet.specs.declared.Verdict.the-variants as Verdicts
 use Rattle.sheet.specs.Verdicts.{numberOf}
 use Rattle.sheet.specs.Tree.{GoodSheet}
 use Rattle.sheet.proofs.Good.{good-sheet}
-use Rattle.layout.specs.declared.Checked.{Checked}
-use Rattle.layout.specs.Plans.{checkedOf}
-use Rattle.kinds.specs.Asked.{askedOf}
-use Rattle.kinds.proofs.Tests.{asked-good}
+use Rattle.sheet_plan.specs.declared.Checked.{Checked}
+use Rattle.sheet_plan.specs.Plans.{checkedOf}
+use Rattle.change_asked.specs.Asked.{askedOf}
+use Rattle.change_asked.proofs.Tests.{asked-good}
 use Rattle.store.specs.declared.Answer.{Answer}
 use Rattle.store.specs.declared.Answer.the-variants.{Refused}
 use Rattle.store.specs.Answers.{Says}
@@ -30,9 +30,9 @@ use Rattle.store.specs.Plans.{GoodPlan, SoundIs}
 use Rattle.store.proofs.Answers.{says-once, says-refused}
 use Rattle.store.proofs.Checks.{check-good, check-plan, check-refused, check-numbered}
 use Rattle.store.proofs.Plans.{store-is}
-use Rattle.routes.specs.Ready.{Ready}
-use Rattle.routes.proofs.Routes.{routed}
-use Rattle.apply.specs.Applies.{Applies}
+use Rattle.change_laws.specs.Ready.{Ready}
+use Rattle.change_laws.proofs.Routes.{routed}
+use Rattle.change_apply.specs.Applies.{Applies}
 
 -- two outcomes of one call are the same
 pub change-once : (sheet store : Words) (c : Change) (a b : Answer) (v w : Words) → Says (change sheet store c) a v → Says (change sheet store c) b w

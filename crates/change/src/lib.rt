@@ -4,7 +4,7 @@ use sheet::Verdict;
 use sheet::WRONG_LENGTH;
 use store::Answer;
 ghost use Rattle.meaning.specs.Change as Meant;
-ghost use Rattle.kinds.specs.Asked.{changeOf};
+ghost use Rattle.change_asked.specs.Asked.{changeOf};
 ghost use Rattle.store.specs.Answers.{Says};
 
 // Inserts `new` (kind 1), deletes `old` (2) or updates `old` to `new` (3) in a table of which the store holds the side table and the list.
@@ -19,7 +19,7 @@ pub fn change(
 ) -> Answer
     ensures { λ a. ⌜ Says (Meant.change (now (sheet .entry)) (now (store .entry)) (changeOf kind table (now (old .entry)) (now (new .entry)))) a (now (store .exit)) ⌝ }
 {
-    let checked = layout::check(sheet);
+    let checked = sheet_plan::check(sheet);
     let v = checked.verdict;
     let plan = checked.plan;
     let Verdict::Good = v else {
@@ -29,7 +29,7 @@ pub fn change(
     if store.len() != plan.store {
         return Answer::Refused(WRONG_LENGTH);
     }
-    let asked = kinds::asked(sheet, kind, table, old, new);
+    let asked = change_asked::asked(sheet, kind, table, old, new);
     let Verdict::Good = asked else {
         let number = sheet::number_of(asked);
         return Answer::Refused(number);
@@ -37,5 +37,5 @@ pub fn change(
     if !store::is_sound(plan, store) {
         return Answer::Refused(NOT_SOUND);
     }
-    apply::apply(sheet, plan, store, kind, table as usize, old, new)
+    change_apply::apply(sheet, plan, store, kind, table as usize, old, new)
 }

@@ -20,27 +20,27 @@ use Rattle.laws.proofs.Sheets.{Good}
 use Rattle.laws.proofs.Meanings.{lawful-get, base-many, meaning-list}
 use Rattle.places.specs.Stands.{Stands}
 use Rattle.places.proofs.Stands.{stands-words}
-use Rattle.layout.specs.declared.Plan.{Plan}
+use Rattle.sheet_plan.specs.declared.Plan.{Plan}
 use Rattle.store.specs.declared.Answer.the-variants.{Done, Refused}
 use Rattle.store.specs.declared.Part.{Part}
 use Rattle.store.specs.Plans.{partOf}
 use Rattle.store.specs.Answers.{Says}
 use Rattle.store.proofs.Answers.{says-refused, says-done}
 use Rattle.walks.specs.Walk.{Keyed}
-use Rattle.layout.proofs.Spread.{ordered}
+use Rattle.sheet_plan.proofs.Spread.{ordered}
 use Rattle.filling.specs.Written.{listFits}
 use Rattle.filling.proofs.Walks.{lawful-keyed}
 use Rattle.filling.proofs.Outcomes.{fill-no-room, fill-done, fits-is}
 use Rattle.store.proofs.Plans.{list-lies}
-use Rattle.base.specs.Bases.{tablesOf}
-use Rattle.base.proofs.Steps.{good-of}
-use Rattle.qualify.specs.Qualifying.{Based}
-use Rattle.qualify.proofs.Bases.{lawful-based}
-use Rattle.fillsides.specs.Sides.{fitsNo, partlyOf}
-use Rattle.fillsides.proofs.Whole.{fits-all, none-written, all-written}
+use Rattle.base_run.specs.Bases.{tablesOf}
+use Rattle.base_run.proofs.Steps.{good-of}
+use Rattle.base_qualified.specs.Qualifying.{Based}
+use Rattle.base_qualified.proofs.Bases.{lawful-based}
+use Rattle.fill_sides.specs.Sides.{fitsNo, partlyOf}
+use Rattle.fill_sides.proofs.Whole.{fits-all, none-written, all-written}
 use Rattle.fill.proofs.Outcomes.{lawful-is}
-use Rattle.listing.specs.Grounds.{Ground}
-use Rattle.listing.specs.Putting.{Blank}
+use Rattle.fill_list.specs.Grounds.{Ground}
+use Rattle.fill_list.specs.Putting.{Blank}
 use Rattle.fill.specs.Tested.{Stored, Tested}
 
 -- Lawful base tables

@@ -15,9 +15,9 @@ use Rattle.sheet.specs.Tree.{GoodSheet}
 use Rattle.sheet.specs.Verdicts.{numberOf}
 use Rattle.sheet.specs.declared.Verdict.the-variants as Verdicts
 use Rattle.sheet.proofs.Good.{good-sheet}
-use Rattle.layout.specs.declared.Checked.{Checked}
-use Rattle.layout.specs.declared.Plan.{Plan}
-use Rattle.layout.specs.Plans.{checkedOf}
+use Rattle.sheet_plan.specs.declared.Checked.{Checked}
+use Rattle.sheet_plan.specs.declared.Plan.{Plan}
+use Rattle.sheet_plan.specs.Plans.{checkedOf}
 use Rattle.store.specs.declared.Answer.{Answer}
 use Rattle.store.specs.declared.Answer.the-variants.{Refused}
 use Rattle.store.specs.Answers.{Says}
@@ -27,7 +27,7 @@ use Rattle.store.proofs.Plans.{store-is}
 use Rattle.filling.specs.Runs.{goodRun}
 use Rattle.filling.proofs.Runs.{base-good}
 use Rattle.filling.proofs.Outcomes.{fill-sheet, fill-length, fill-bad-base}
-use Rattle.base.specs.Bases.{tablesOf}
+use Rattle.base_run.specs.Bases.{tablesOf}
 use Rattle.fill.specs.Tested.{Stored}
 
 -- two outcomes that meet the contract are one

@@ -10,10 +10,10 @@ use Rattle.meaning.specs.Sheet.{sheetOf, tableCount}
 use Rattle.meaning.specs.Plan.{storeLength}
 use Rattle.meaning.specs.Base.{lawful}
 use Rattle.sheet.specs.Tree.{GoodSheet}
-use Rattle.layout.specs.declared.Plan.{Plan}
+use Rattle.sheet_plan.specs.declared.Plan.{Plan}
 use Rattle.store.specs.Plans.{GoodPlan}
 use Rattle.filling.specs.Runs.{goodRun}
-use Rattle.base.specs.Bases.{tablesOf, Laid, Orders}
+use Rattle.base_run.specs.Bases.{tablesOf, Laid, Orders}
 
 -- a good sheet with its plan, and a store of the right length
 pub record Stored (ws : Words) (plan : Plan) (store : Words) : Type 0 where

@@ -1,9 +1,9 @@
 // The fill call: the store of a sheet written anew from its base tables, which are tested first.
-use layout::Plan;
 use sheet::BAD_BASE;
 use sheet::NO_ROOM;
 use sheet::Verdict;
 use sheet::WRONG_LENGTH;
+use sheet_plan::Plan;
 use store::Answer;
 ghost use mathlib.Core.Path.{_≡_};
 ghost use mathlib.Core.Bool.{true};
@@ -38,19 +38,19 @@ fn fill_lawful(
     requires { ⌜ Tested (now sheet) (now run) starts (now numbers) ⌝ }
     ensures { λ a. ⌜ Says (Meant.fill (now (sheet .entry)) (now (store .entry)) (now (run .entry))) a (now (store .exit)) ⌝ }
 {
-    if !fillsides::sides_fit(sheet, plan, run, starts, numbers) {
+    if !fill_sides::sides_fit(sheet, plan, run, starts, numbers) {
         return Answer::Refused(NO_ROOM);
     }
     let root = plan.root;
     let order = plan.order;
     let list = store::part_of(plan, plan.tables);
-    let added = listing::count_list(sheet, run, starts, numbers, root, order);
+    let added = fill_list::count_list(sheet, run, starts, numbers, root, order);
     if list.room < added {
         return Answer::Refused(NO_ROOM);
     }
     clear(store);
-    fillsides::write_sides(sheet, plan, run, starts, numbers, store);
-    listing::write_list(sheet, run, starts, numbers, root, order, store, list);
+    fill_sides::write_sides(sheet, plan, run, starts, numbers, store);
+    fill_list::write_list(sheet, run, starts, numbers, root, order, store, list);
     Answer::Done(0, added as u64)
 }
 
@@ -60,11 +60,11 @@ fn fill_run(sheet: &[u64], plan: Plan, run: &[u64], store: &mut [u64]) -> Answer
     requires { ⌜ goodRun (sheetOf (now sheet)) (now run) ≡ true ⌝ }
     ensures { λ a. ⌜ Says (Meant.fill (now (sheet .entry)) (now (store .entry)) (now (run .entry))) a (now (store .exit)) ⌝ }
 {
-    let starts = base::starts_of(sheet, run);
+    let starts = base_run::starts_of(sheet, run);
     let mut numbers = [0u16; 524280];
     let mut spare = [0u16; 32768];
-    base::order_tables(sheet, run, starts, &mut numbers, &mut spare);
-    if !base::is_lawful(sheet, run, starts, &numbers) {
+    base_run::order_tables(sheet, run, starts, &mut numbers, &mut spare);
+    if !base_run::is_lawful(sheet, run, starts, &numbers) {
         return Answer::Refused(BAD_BASE);
     }
     fill_lawful(sheet, plan, run, starts, &numbers, store)
@@ -74,7 +74,7 @@ fn fill_run(sheet: &[u64], plan: Plan, run: &[u64], store: &mut [u64]) -> Answer
 pub fn fill(sheet: &[u64], base: &[u64], store: &mut [u64]) -> Answer
     ensures { λ a. ⌜ Says (Meant.fill (now (sheet .entry)) (now (store .entry)) (now (base .entry))) a (now (store .exit)) ⌝ }
 {
-    let checked = layout::check(sheet);
+    let checked = sheet_plan::check(sheet);
     let v = checked.verdict;
     let plan = checked.plan;
     let Verdict::Good = v else {
@@ -83,7 +83,7 @@ pub fn fill(sheet: &[u64], base: &[u64], store: &mut [u64]) -> Answer
     if store.len() != plan.store {
         return Answer::Refused(WRONG_LENGTH);
     }
-    if !base::run_ok(sheet, base) {
+    if !base_run::run_ok(sheet, base) {
         return Answer::Refused(BAD_BASE);
     }
     fill_run(sheet, plan, base, store)

@@ -10,8 +10,8 @@ use lib.Seq.{sets-eq, drop-length}
 use Rattle.lists.specs.Lists.{Words}
 use Rattle.meaning.specs.Plan.{plan}
 use Rattle.text.specs.Writing.{Wrote}
-use Rattle.plans.specs.Answers.{laid}
-use Rattle.plans.specs.declared.PlanAnswer.{PlanAnswer}
+use Rattle.plan_answer.specs.Answers.{laid}
+use Rattle.plan_answer.specs.declared.PlanAnswer.{PlanAnswer}
 use Rattle.oratjolet.specs.Exports.{planWords, Planned}
 
 -- words written over as many words are all that stands there

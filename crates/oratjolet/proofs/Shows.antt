@@ -14,11 +14,11 @@ use Rattle.meaning.specs.Sheet.{sheetOf, sheetRefusal}
 use Rattle.meaning.specs.Plan.{columns, start, storeLength}
 use Rattle.meaning.specs.Store.{count, showRefusal, stretchOf, show}
 use Rattle.laws.proofs.Numbers.{show-accepted}
-use Rattle.layout.specs.declared.Checked.{Checked}
-use Rattle.layout.specs.declared.Plan.{Plan}
-use Rattle.layout.specs.Plans.{checkedOf}
-use Rattle.layout.specs.Planned.{Planned}
-use Rattle.layout.proofs.Planning.{planned}
+use Rattle.sheet_plan.specs.declared.Checked.{Checked}
+use Rattle.sheet_plan.specs.declared.Plan.{Plan}
+use Rattle.sheet_plan.specs.Plans.{checkedOf}
+use Rattle.sheet_plan.specs.Planned.{Planned}
+use Rattle.sheet_plan.proofs.Planning.{planned}
 use Rattle.store.specs.Shows.{Gives, firstOf}
 use Rattle.oratjolet.specs.Exports.{Shown}
 

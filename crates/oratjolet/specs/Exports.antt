@@ -11,8 +11,8 @@ use Rattle.meaning.specs.Answers.{Outcome}
 use Rattle.store.specs.declared.Answer.{Answer}
 use Rattle.store.specs.Answers.{numberOf, takenOf, addedOf}
 use Rattle.store.specs.Shows.{firstOf}
-use Rattle.plans.specs.Answers.{laid}
-use Rattle.plans.specs.declared.PlanAnswer.{PlanAnswer}
+use Rattle.plan_answer.specs.Answers.{laid}
+use Rattle.plan_answer.specs.declared.PlanAnswer.{PlanAnswer}
 
 -- The plan call's 220 words: number, tables, root, store length, then eight marks, three times 64 marks, eight places, eight rooms
 unfoldable pub planWords : PlanAnswer → Words

@@ -1,5 +1,5 @@
 // The face: the calls in one place, exported to C and Rust. A call's result is its number; what else it answers goes to words that the caller lends.
-use plans::PlanAnswer;
+use plan_answer::PlanAnswer;
 use store::Answer;
 ghost use mathlib.Core.Path.{_≡_};
 ghost use Prim.Native.Nat.{_+_, _≤_};
@@ -7,7 +7,7 @@ ghost use mathlib.Core.List.{_++_};
 ghost use lib.ListN.{length};
 ghost use Rattle.meaning.specs.Change.{change};
 ghost use Rattle.meaning.specs.Fill.{fill};
-ghost use Rattle.kinds.specs.Asked.{changeOf};
+ghost use Rattle.change_asked.specs.Asked.{changeOf};
 ghost use Rattle.text.specs.Writing.{Wrote};
 ghost use Rattle.oratjolet.specs.Exports.{planWords, Planned, Shown, Told, Left};
 
@@ -88,7 +88,7 @@ fn put_plan(a: PlanAnswer, out: &mut [u64]) -> usize
 pub extern "C" fn oratjolet_plan(sheet: &[u64], answer: &mut [u64; 220]) -> u64
     ensures { λ k. ⌜ Planned (now (sheet .entry)) k (now (answer .exit)) ⌝ }
 {
-    let a = plans::plan_of(sheet);
+    let a = plan_answer::plan_of(sheet);
     put_plan(a, answer);
     a.number
 }
@@ -111,7 +111,7 @@ pub extern "C" fn oratjolet_show(
     if refusal != 0 {
         return refusal;
     }
-    let plan = layout::check(sheet).plan;
+    let plan = sheet_plan::check(sheet).plan;
     *first = plan.starts[number as usize] as u64;
     0
 }

@@ -1,8 +1,8 @@
 // Runs barcodes that differ by 4,294,967,296, the value 2^64 - 1 and equal rows through regions, through the sorts and through an order by key,
 // and writes what stands there after each step.
-use order::find_in_order;
-use order::no_key_twice;
-use order::order_by_key;
+use key_order::find_in_order;
+use key_order::no_key_twice;
+use key_order::order_by_key;
 use rows::Found;
 use sorting::settle;
 use sorting::sort_few;
@@ -13,7 +13,7 @@ ghost use lib.ListN.{length, replicate};
 ghost use Rattle.rows.specs.Rows.{cut};
 ghost use Rattle.rows.specs.Regions.{Region};
 ghost use Rattle.rows.specs.Marks.{Tallied};
-ghost use Rattle.order.specs.Orders.{Ordered};
+ghost use Rattle.key_order.specs.Orders.{Ordered};
 
 // A barcode, the one that differs from it in the upper 32 bits alone, that difference, and the greatest word.
 const CODE: u64 = 31234000000001;

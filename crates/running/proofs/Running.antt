@@ -21,10 +21,10 @@ use Rattle.store.specs.declared.Answer.{Answer}
 use Rattle.store.specs.Answers.{Says}
 use Rattle.oratjolet.specs.Exports.{Left}
 use Rattle.laws.proofs.Numbers.{plan-number}
-use Rattle.plans.specs.declared.PlanAnswer.{PlanAnswer}
-use Rattle.plans.specs.Answers.{tableNo, laid}
-use Rattle.plans.proofs.Laid.{table-in, tables-many}
-use Rattle.plans.proofs.Sets.{plan-told}
+use Rattle.plan_answer.specs.declared.PlanAnswer.{PlanAnswer}
+use Rattle.plan_answer.specs.Answers.{tableNo, laid}
+use Rattle.plan_answer.proofs.Laid.{table-in, tables-many}
+use Rattle.plan_answer.proofs.Sets.{plan-told}
 use Rattle.upkeep.proofs.First.{demand1}
 use Rattle.upkeep.proofs.Second.{demand2}
 use Rattle.upkeep.proofs.Third.{demand3}

@@ -13,13 +13,13 @@ use Rattle.lists.specs.Lists.{Words}
 use Rattle.meaning.specs.Answers.{Outcome}
 use Rattle.meaning.specs.Base.{Change}
 use Rattle.meaning.specs.Store.{Stretch}
-use Rattle.kinds.specs.Asked.{changeOf}
+use Rattle.change_asked.specs.Asked.{changeOf}
 use Rattle.store.specs.declared.Answer.{Answer}
 use Rattle.store.specs.Answers.{numberOf, takenOf, addedOf}
-use Rattle.plans.specs.declared.PlanAnswer.{PlanAnswer}
+use Rattle.plan_answer.specs.declared.PlanAnswer.{PlanAnswer}
 use Rattle.oratjolet.specs.Exports.{planWords}
-use Rattle.plans.proofs.plan_of as plan
-use Rattle.plans.proofs.plan_of.Reads as plan-reads
+use Rattle.plan_answer.proofs.plan_of as plan
+use Rattle.plan_answer.proofs.plan_of.Reads as plan-reads
 use Rattle.store.proofs.show as show
 use Rattle.store.proofs.show.Reads as show-reads
 use Rattle.fill.proofs.fill as fill

@@ -15,9 +15,9 @@ use Rattle.meaning.specs.Base.{Tables, Change, baseOf, goodBase, lawfulChange, 
 use Rattle.meaning.specs.Meaning.{meaning}
 use Rattle.meaning.specs.Store.{Stretch, storeOf, rowsAt, fits}
 use Rattle.meaning.specs.Demands.{Refused, First, sheetTests, changeTests, fillTests, showTests, Answered, Shown, Derived, Filled, waysOf, outgrows}
-use Rattle.layout.specs.Marks.{markedIn}
-use Rattle.plans.specs.declared.PlanAnswer.{PlanAnswer}
-use Rattle.plans.specs.Answers.{laid}
+use Rattle.sheet_plan.specs.Marks.{markedIn}
+use Rattle.plan_answer.specs.declared.PlanAnswer.{PlanAnswer}
+use Rattle.plan_answer.specs.Answers.{laid}
 use Rattle.running.specs.Calls.{PlanCall, ShowCall, FillCall, ChangeCall, AllTakeAny, Ran, showed, filled, plannedSheet, Answers}
 use Rattle.running.specs.Calls as Calls
 use Rattle.running.specs.Texts.{NewCall, ChunkCall, ReplyCall, TextsTakeAny, Read, textOf, Printed}

@@ -12,7 +12,7 @@ use Rattle.rows.specs.Rows.{sameRow, cut}
 use Rattle.meaning.specs.Sheet.{sheetOf, goodCounts, goodEdge, goodCondition, goodListed, goodWords, goodTree, sheetRefusal}
 use Rattle.meaning.specs.Plan.{root, edgeInto, others, dep, depPlus, need, kept, isShown, shown, columns, size, start, storeLength, inOrder, tablePlan, goodPlan, plan}
 use Rattle.meaning.specs.Cases.{desk, deskUnlisted}
-use Rattle.plans.specs.Answers.{setsOf, numbersOf, laid}
+use Rattle.plan_answer.specs.Answers.{setsOf, numbersOf, laid}
 use Rattle.oratjolet.specs.Exports.{planWords}
 
 -- the marks of eight tables, of which the desk sheet has four

@@ -13,7 +13,7 @@ use Rattle.meaning.specs.Plan.{kept, shown}
 use Rattle.meaning.specs.Store.{rowsAt}
 use Rattle.laws.proofs.Columns.{columns-side, shown-first}
 use Rattle.laws.proofs.Sheets.{Good}
-use Rattle.layout.specs.declared.Plan.{Plan}
+use Rattle.sheet_plan.specs.declared.Plan.{Plan}
 use Rattle.places.specs.Stands.{Stands, withPart}
 use Rattle.store.specs.declared.Part.{Part}
 use Rattle.store.specs.Parts.{rowsIn, Lies, Kept, Wrote}

@@ -16,7 +16,7 @@ use Rattle.rows.specs.Rows.{Row, pick}
 use Rattle.meaning.specs.Sheet.{Sheet, width}
 use Rattle.meaning.specs.Plan.{kept, shown}
 use Rattle.laws.proofs.Columns.{columns-side, shown-below}
-use Rattle.layout.specs.declared.Plan.{Plan}
+use Rattle.sheet_plan.specs.declared.Plan.{Plan}
 use Rattle.store.specs.Plans.{GoodPlan}
 
 pub at-pick : (r : Row) (cols : List ℕ) (j : ℕ) → j < length cols → at (pick cols r) j ≡ at r (at cols j)

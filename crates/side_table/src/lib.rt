@@ -1,6 +1,6 @@
 // The changed table's own side table: what the tests ask of it, and its row put in, taken out or replaced. An unkept table has none.
-use layout::Plan;
 use rows::Found;
+use sheet_plan::Plan;
 ghost use mathlib.Core.Path.{_≡_};
 ghost use Prim.Native.Nat.{ℕ, _<_};
 ghost use lib.Dec.{T};

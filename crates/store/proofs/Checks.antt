@@ -9,9 +9,9 @@ use Rattle.laws.proofs.Sheets.{good-sheet}
 use Rattle.sheet.specs.declared.Verdict.the-variants.{Good, Refused}
 use Rattle.sheet.specs.Verdicts.{verdictOf, numberOf}
 use Rattle.sheet.proofs.Good.{good-zero, zero-good, number-is}
-use Rattle.layout.specs.declared.Checked.{Checked}
-use Rattle.layout.specs.Plans.{checkedOf}
-use Rattle.layout.proofs.Planning.{planned}
+use Rattle.sheet_plan.specs.declared.Checked.{Checked}
+use Rattle.sheet_plan.specs.Plans.{checkedOf}
+use Rattle.sheet_plan.proofs.Planning.{planned}
 use Rattle.store.specs.Plans.{GoodPlan, OfSheet}
 
 module _ (ws : Words) (c : Checked) (e : c ≡ checkedOf ws) where

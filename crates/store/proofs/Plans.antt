@@ -12,7 +12,7 @@ use Rattle.lists.proofs.Truth.{decided, cond-true, cond-false}
 use Rattle.meaning.specs.Sheet.{Sheet}
 use Rattle.meaning.specs.Plan.{kept, columns, storeLength}
 use Rattle.laws.proofs.Columns.{columns-side, shown-first}
-use Rattle.layout.specs.declared.Plan.{Plan}
+use Rattle.sheet_plan.specs.declared.Plan.{Plan}
 use Rattle.places.proofs.Parts.{start-after}
 use Rattle.store.specs.declared.Part.{Part}
 use Rattle.store.specs.Parts.{Lies, Within}

@@ -14,8 +14,8 @@ use Rattle.meaning.specs.Plan.{columns, start, storeLength}
 use Rattle.meaning.specs.Store.{sound, stretchOf, modelOf}
 use Rattle.sheet.specs.declared.Verdict.the-variants.{Good, Refused}
 use Rattle.sheet.specs.Verdicts.{numberOf}
-use Rattle.layout.specs.declared.Checked.{Checked}
-use Rattle.layout.specs.Plans.{checkedOf}
+use Rattle.sheet_plan.specs.declared.Checked.{Checked}
+use Rattle.sheet_plan.specs.Plans.{checkedOf}
 use Rattle.places.proofs.Stands.{sound-stands}
 use Rattle.store.specs.declared.Part.{Part}
 use Rattle.store.specs.Parts.{countIn, Lies, Kept}

@@ -9,7 +9,7 @@ use lib.ListN.{length, getD}
 use Rattle.lists.specs.Lists.{Words, at}
 use Rattle.lists.specs.Loops.{every}
 use Rattle.lists.proofs.Loops.{every-more, every-fails, every-end}
-use Rattle.layout.specs.declared.Plan.{Plan}
+use Rattle.sheet_plan.specs.declared.Plan.{Plan}
 use Rattle.places.proofs.Parts.{slot-table, slot-list}
 use Rattle.store.specs.declared.Part.{Part}
 use Rattle.store.specs.Tests.{absentZero, tableSound}

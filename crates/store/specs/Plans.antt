@@ -10,8 +10,8 @@ use Rattle.lists.specs.Loops.{every}
 use Rattle.meaning.specs.Sheet.{Sheet}
 use Rattle.meaning.specs.Store.{sound}
 use Rattle.laws.proofs.Sheets.{Good}
-use Rattle.layout.specs.declared.Plan.{Plan}
-use Rattle.layout.specs.Planned.{Planned}
+use Rattle.sheet_plan.specs.declared.Plan.{Plan}
+use Rattle.sheet_plan.specs.Planned.{Planned}
 use Rattle.store.specs.declared.Part.{Part}
 use Rattle.store.specs.Tests.{tableSound}
 

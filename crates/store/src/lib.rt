@@ -1,7 +1,7 @@
 // The store of a good sheet: sound or not, its parts shown and written, and what a call that may write it answers.
-use layout::Plan;
 use rows::Found;
 use sheet::Verdict;
+use sheet_plan::Plan;
 ghost use mathlib.Core.Path.{_≡_};
 ghost use mathlib.Core.Bool.{true};
 ghost use Prim.Native.Nat.{ℕ, _<_, _≤_};
@@ -139,7 +139,7 @@ pub fn is_sound(plan: Plan, store: &[u64]) -> bool
 pub fn show<'a>(sheet: &[u64], store: &'a [u64], number: u64, refusal: &mut u64) -> &'a [u64]
     ensures { λ r. ⌜ HandsBack (now (sheet .entry)) (store .entry) number r (now (refusal .exit)) ⌝ }
 {
-    let checked = layout::check(sheet);
+    let checked = sheet_plan::check(sheet);
     let v = checked.verdict;
     let plan = checked.plan;
     let Verdict::Good = v else {

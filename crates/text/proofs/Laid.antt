@@ -17,10 +17,10 @@ use Rattle.meaning.specs.Plan.{TablePlan, kept, isShown, shown, inOrder, tableP
 use Rattle.laws.proofs.Lists.{at-upTo, length-upTo}
 use Rattle.laws.proofs.Sheets.{Good, good-sheet}
 use Rattle.sheet.proofs.Numbers.{member-chosen}
-use Rattle.layout.specs.Marks.{marked, markedIn}
-use Rattle.layout.proofs.Chosen.{select-narrow}
-use Rattle.plans.specs.Answers.{noTable, tableNo, setsOf, numbersOf, laid}
-use Rattle.plans.specs.declared.PlanAnswer.{PlanAnswer}
+use Rattle.sheet_plan.specs.Marks.{marked, markedIn}
+use Rattle.sheet_plan.proofs.Chosen.{select-narrow}
+use Rattle.plan_answer.specs.Answers.{noTable, tableNo, setsOf, numbersOf, laid}
+use Rattle.plan_answer.specs.declared.PlanAnswer.{PlanAnswer}
 use Rattle.text.specs.Printing.{lineText, tableText, headText, refusedText, tablesText, linesUpTo, planText}
 use Rattle.text.specs.Laid.{lineOf, answerText}
 use Rattle.text.proofs.Bytes.{passed, failing}

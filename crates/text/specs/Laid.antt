@@ -5,8 +5,8 @@ use mathlib.Core.Bool.{cond}
 use mathlib.Core.List.{List, _++_}
 use lib.Dec.{eqb}
 use lib.ListN.{getD}
-use Rattle.layout.specs.Marks.{markedIn}
-use Rattle.plans.specs.declared.PlanAnswer.{PlanAnswer}
+use Rattle.sheet_plan.specs.Marks.{markedIn}
+use Rattle.plan_answer.specs.declared.PlanAnswer.{PlanAnswer}
 use Rattle.text.specs.Reading.{Text}
 use Rattle.text.specs.Printing.{setsText, lineText, headText, refusedText, linesUpTo}
 

@@ -1,5 +1,5 @@
 // The text of a plan, written into a lent buffer.
-use plans::PlanAnswer;
+use plan_answer::PlanAnswer;
 ghost use mathlib.Core.Path.{_≡_};
 ghost use mathlib.Core.List.{_++_};
 ghost use Prim.Native.Nat.{ℕ, _+_, _*_, _≤_, _<_};
@@ -7,7 +7,7 @@ ghost use lib.Dec.{ltb};
 ghost use lib.ListN.{length};
 ghost use Rattle.text.specs.Printing.{decimal, memberText, setText, headText, refusedText, planText};
 ghost use Rattle.meaning.specs.Plan.{plan};
-ghost use Rattle.layout.specs.Marks.{markedIn};
+ghost use Rattle.sheet_plan.specs.Marks.{markedIn};
 ghost use Rattle.text.specs.Laid.{setsIn, lineIn, linesIn, answerText};
 ghost use Rattle.text.specs.Writing.{Wrote};
 
@@ -213,7 +213,7 @@ pub fn put_plan_of(sheet: &[u64], out: &mut [u8; 1024]) -> usize
     ensures { λ r. ⌜ Wrote (now (out .entry)) 0 (planText (plan (now (sheet .entry)))) (now (out .exit)) r ⌝ }
     ensures { λ r. ⌜ r ≤ 1024 ⌝ }
 {
-    let a = plans::plan_of(sheet);
+    let a = plan_answer::plan_of(sheet);
     put_plan(a, out)
 }
 

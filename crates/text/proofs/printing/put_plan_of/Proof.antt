@@ -2,7 +2,7 @@
 -- Assumes nothing.
 use Prim.Native.Nat.{_≤_}
 use mathlib.Core.Path.{ap, sym, _∙_, subst}
-use Rattle.plans.specs.declared.PlanAnswer.{PlanAnswer}
+use Rattle.plan_answer.specs.declared.PlanAnswer.{PlanAnswer}
 use Rattle.text.specs.Laid.{answerText}
 use Rattle.text.proofs.Writes.{wrote-as}
 use Rattle.text.proofs.Laid.{laid-text, few-tables}

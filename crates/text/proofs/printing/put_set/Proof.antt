@@ -3,7 +3,7 @@
 use Prim.Native.Nat.{_≤_, _-_}
 use lib.ListN.{length-set}
 use borrow.Author.Tests.{eq-eqb, ne-eqb}
-use Rattle.layout.specs.Marks.{marked, markedIn}
+use Rattle.sheet_plan.specs.Marks.{marked, markedIn}
 use Rattle.text.proofs.Sets.{Passed, passed-none, passed-over, passed-in, set-none, set-some}
 use borrow.Author.Needs.{needs}
 use native.Mathlib.Omega.{arith}

@@ -1,0 +1,80 @@
+-- A delete on a ready store, answer by answer.
+-- Assumes nothing.
+use Prim.Native.Nat.{ℕ}
+use mathlib.Core.Path.{_≡_, refl, sym, _∙_, subst}
+use mathlib.Core.Bool.{Bool, true, false, not}
+use native.Mathlib.Omega.{arith}
+use lib.ListN.{length}
+use borrow.Author.Tests.{not-true, not-false}
+use Rattle.lists.specs.Lists.{Words}
+use Rattle.rows.specs.Rows.{Row, Rows, takeRows}
+use Rattle.rows.specs.Marks.{unmarked}
+use Rattle.meaning.specs.Sheet.{sheetOf}
+use Rattle.meaning.specs.Store.{rowsAt, modelOf}
+use Rattle.meaning.specs.Change.{qualifies, sideRow, oldRow}
+use Rattle.laws.proofs.Changes.{made}
+use Rattle.effects.specs.Applied.{applied, walkRows}
+use Rattle.effects.proofs.Deletes.{delete-contradicts-side, delete-none, delete-contradicts-list, delete-done}
+use Rattle.sheet_plan.specs.declared.Plan.{Plan}
+use Rattle.walk.specs.Grounds.{Lent}
+use Rattle.store.specs.declared.Part.{Part}
+use Rattle.store.specs.declared.Answer.the-variants.{Done, Refused}
+use Rattle.store.specs.Parts.{rowsIn, Lies, Wrote}
+use Rattle.store.proofs.Answers.{says-refused}
+use Rattle.store.proofs.Lying.{rows-is}
+use Rattle.side_table.specs.Sides.{Sided}
+use Rattle.change_laws.specs.Ready.{Ready}
+use Rattle.change_laws.proofs.Answers.{says-nothing, says-all}
+use Rattle.change_laws.proofs.Halves.{ready-good, ready-table, both-words}
+use Rattle.change_taken.specs.declared.Taken.{Taken}
+use Rattle.change_taken.specs.declared.Taken.the-variants.{All, Contrary}
+use Rattle.change_taken.specs.Taking.{WaysTaken}
+use Rattle.change_delete.specs.Deletes.{Deletes}
+
+module _ {ws store : Words} {plan : Plan} (rd : Ready ws store plan) {t : ℕ} {r : Row} (lent : Lent ws t r)
+    (q : Bool) (eq : q ≡ qualifies (sheetOf ws) (modelOf (sheetOf ws) store) t r) (b : Bool) (eb : b ≡ oldRow (sheetOf ws) (modelOf (sheetOf ws) store) t r) where
+  -- the side table contradicts it
+  pub deletes-contradicts-side : not b ≡ true → Deletes ws store t r (Refused 8) store
+  deletes-contradicts-side h =
+      record {
+        says = λ o. says-refused (applied (sheetOf ws) store (made 2 t r o)) 8 store (λ z. omega arith)
+            (delete-contradicts-side (sheetOf ws) (ready-good rd) store (rd .sound) t (ready-table rd lent) r o (sym eb ∙ not-true b h));
+      }
+
+  module _ (h : not b ≡ false) where
+    old : oldRow (sheetOf ws) (modelOf (sheetOf ws) store) t r ≡ true
+    old = sym eb ∙ not-false b h
+
+    pub deletes-none : not q ≡ true → Deletes ws store t r (Done 0 0) store
+    deletes-none f =
+        record {
+          says = λ o. says-nothing (applied (sheetOf ws) store (made 2 t r o)) store
+              (delete-none (sheetOf ws) (ready-good rd) store (rd .sound) t (ready-table rd lent) r o old (sym eq ∙ not-true q f));
+        }
+
+    module _ (f : not q ≡ false) (marks : Words) (a : Taken) (m : WaysTaken ws store t r marks a) where
+      fine : qualifies (sheetOf ws) (modelOf (sheetOf ws) store) t r ≡ true
+      fine = sym eq ∙ not-false q f
+
+      -- the list does
+      pub deletes-contradicts-list : a ≡ Contrary → Deletes ws store t r (Refused 8) store
+      deletes-contradicts-list e =
+          record {
+            says = λ o. says-refused (applied (sheetOf ws) store (made 2 t r o)) 8 store (λ z. omega arith)
+                (delete-contradicts-list (sheetOf ws) (ready-good rd) store (rd .sound) t (ready-table rd lent) r o old fine (subst (WaysTaken ws store t r marks) e m));
+          }
+
+      -- its rows leave the list and then its side table
+      module _ (list : Part) (lies : Lies (sheetOf ws) (sheetOf ws .n) list) (mid : Words) (w : Wrote list (unmarked marks (rowsIn list store)) store mid) where
+        pub deletes-done : (k : ℕ) → a ≡ All k → (exit : Words) → Sided (sheetOf ws) t (takeRows (sideRow (sheetOf ws) t r)) mid exit → Deletes ws store t r (Done k 0) exit
+        deletes-done k e exit si =
+            let s = sheetOf ws in
+            let so = subst (WaysTaken ws store t r marks) e m in
+            let left = unmarked marks (rowsAt s store (s .n)) in
+            let many = length (walkRows s (modelOf s store) t r) in
+            let wrote : Wrote list left store mid = subst (λ (rows : Rows). Wrote list (unmarked marks rows) store mid) (rows-is s (s .n) list lies store) w in
+            record {
+              says = λ o. says-all s store t many 0 (takeRows (sideRow s t r) (rowsAt s store t)) left (applied s store (made 2 t r o)) k 0 exit
+                  (delete-done s (ready-good rd) store (rd .sound) t (ready-table rd lent) r o old fine marks (so .1)) (so .0) refl
+                  (both-words rd list lies left mid wrote t (ready-table rd lent) (takeRows (sideRow s t r)) exit si many 0);
+            }

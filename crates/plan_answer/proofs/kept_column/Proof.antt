@@ -1,0 +1,31 @@
+-- `kept_column` meets its contract.
+-- Assumes nothing.
+use borrow.Author.Tests.{eq-eqb, ne-eqb}
+use Rattle.plan_answer.specs.Answers.{keptColumn}
+use borrow.Author.Needs.{needs}
+use Rattle.plan_answer.proofs.kept_column.Statement.{statement}
+use Rattle.plan_answer.proofs.kept_column.Tie as tie
+
+mul-if1 : tie.Need-mul-if1
+mul-if1 c = search needs
+
+array-read-if1 : tie.Need-array-read-if1
+array-read-if1 c = search needs
+
+mul-result : tie.Need-mul-result
+mul-result c = search needs
+
+array-read-result : tie.Need-array-read-result
+array-read-result c = search needs
+
+returns : tie.Need-returns
+unfolding keptColumn
+returns c = rw (eq-eqb _ _ (c .if1 .taken))
+
+returns-2 : tie.Need-returns-2
+unfolding keptColumn
+returns-2 c = rw (ne-eqb _ _ (c .if1 .left))
+
+pub kept-column-spec : {M : Type 1} → statement M
+kept-column-spec =
+    tie.close (tie.spec mul-if1 array-read-if1 mul-result array-read-result returns returns-2)

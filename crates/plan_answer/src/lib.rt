@@ -1,0 +1,167 @@
+// The plan call: any run of words to the whole plan, or to the number of the refusal.
+use sheet::Verdict;
+use sheet_plan::Plan;
+use sheet_plan::mark_of;
+ghost use mathlib.Core.Path.{_≡_};
+ghost use Prim.Native.Nat.{ℕ, _≤_, _<_};
+ghost use lib.ListN.{length};
+ghost use Rattle.meaning.specs.Plan.{plan};
+ghost use Rattle.meaning.specs.Sheet.{sheetOf};
+ghost use Rattle.sheet.specs.Tree.{GoodSheet};
+ghost use Rattle.sheet_plan.specs.Planned.{Lengths};
+ghost use Rattle.plan_answer.specs.Answers.{depOf, needAt, needOf, keptColumn, keptColumns, firstParts, answerFor, refusedAnswer, laid};
+
+// What is printed of the plan, with each table's place and room. Every other field is zero where the sheet is refused.
+pub struct PlanAnswer {
+    pub number: u64,
+    pub tables: usize,
+    pub root: usize,
+    // the store's length
+    pub store: usize,
+    // of each table: 1 if it has a side table
+    pub kept: [u64; 8],
+    // 1 at 8t + c if table t's side table shows column c; at 8t + u if u is in Dep(t), in Need(t)
+    pub columns: [u64; 64],
+    pub dep: [u64; 64],
+    pub need: [u64; 64],
+    // where table t's part of the store begins, and for how many rows it has room
+    pub starts: [usize; 8],
+    pub rooms: [usize; 8],
+}
+
+// 1 at 8t + u if u is in Dep(t).
+fn dep_marks(sheet: &[u64]) -> [u64; 64]
+    requires { ⌜ GoodSheet (now sheet) ⌝ }
+    ensures { λ m. ⌜ m ≡ depOf (sheetOf (now (sheet .entry))) ⌝ }
+{
+    let mut m = [0u64; 64];
+    let mut i = 0;
+    while i < 64 {
+        m[i] = mark_of(derive::depends(sheet, i / 8, i % 8, 1));
+        i += 1;
+    }
+    m
+}
+
+// 1 if there is a table i / 8, and i % 8 is in its Need.
+fn need_at(sheet: &[u64], i: usize) -> u64
+    requires { ⌜ GoodSheet (now sheet) ⌝ }
+    ensures { λ r. ⌜ r ≡ needAt (sheetOf (now (sheet .entry))) i ⌝ }
+{
+    let n = sheet::tables(sheet);
+    if n <= i / 8 {
+        return 0;
+    }
+    mark_of(derive::needs(sheet, i / 8, i % 8, n))
+}
+
+fn need_marks(sheet: &[u64]) -> [u64; 64]
+    requires { ⌜ GoodSheet (now sheet) ⌝ }
+    ensures { λ m. ⌜ m ≡ needOf (sheetOf (now (sheet .entry))) ⌝ }
+{
+    let mut m = [0u64; 64];
+    let mut i = 0;
+    while i < 64 {
+        m[i] = need_at(sheet, i);
+        i += 1;
+    }
+    m
+}
+
+// The mark of column i % 8 of table i / 8: none for an unkept table.
+fn kept_column(kept: [u64; 8], shows: [u64; 64], i: usize) -> u64
+    requires { ⌜ i < 64 ⌝ }
+    ensures { λ r. ⌜ r ≡ keptColumn kept shows i ⌝ }
+{
+    if kept[i / 8] == 1 {
+        return shows[i];
+    }
+    0
+}
+
+fn kept_columns(kept: [u64; 8], shows: [u64; 64]) -> [u64; 64]
+    ensures { λ r. ⌜ r ≡ keptColumns kept shows ⌝ }
+{
+    let mut r = [0u64; 64];
+    let mut i = 0;
+    while i < 64 {
+        r[i] = kept_column(kept, shows, i);
+        i += 1;
+    }
+    r
+}
+
+// What stands at the first n of the parts: the tables'.
+fn first_parts(parts: &[usize], n: usize) -> [usize; 8]
+    requires { ⌜ n ≤ 8 ⌝ }
+    requires { ⌜ n ≤ length (now parts) ⌝ }
+    ensures { λ r. ⌜ r ≡ firstParts (now (parts .entry)) n ⌝ }
+{
+    let mut r = [0usize; 8];
+    let mut t = 0;
+    while t < n {
+        r[t] = parts[t];
+        t += 1;
+    }
+    r
+}
+
+// The answer from the plan that every call has, and the marks of Dep and Need, which this call alone shows.
+fn answer_for(p: Plan, dep: [u64; 64], need: [u64; 64]) -> PlanAnswer
+    requires { ⌜ p .tables ≤ 8 ⌝ }
+    requires { ⌜ Lengths p ⌝ }
+    ensures { λ a. ⌜ a ≡ answerFor p dep need ⌝ }
+{
+    let n = p.tables;
+    let kept = p.kept;
+    let shows = p.shows;
+    let all_starts = p.starts;
+    let all_rooms = p.rooms;
+    let columns = kept_columns(kept, shows);
+    let starts = first_parts(&all_starts, n);
+    let rooms = first_parts(&all_rooms, n);
+    PlanAnswer {
+        number: 0,
+        tables: n,
+        root: p.root,
+        store: p.store,
+        kept: kept,
+        columns: columns,
+        dep: dep,
+        need: need,
+        starts: starts,
+        rooms: rooms,
+    }
+}
+
+fn refused_answer(number: u64) -> PlanAnswer
+    ensures { λ a. ⌜ a ≡ refusedAnswer number ⌝ }
+{
+    PlanAnswer {
+        number: number,
+        tables: 0,
+        root: 0,
+        store: 0,
+        kept: [0u64; 8],
+        columns: [0u64; 64],
+        dep: [0u64; 64],
+        need: [0u64; 64],
+        starts: [0usize; 8],
+        rooms: [0usize; 8],
+    }
+}
+
+// The plan call.
+pub fn plan_of(sheet: &[u64]) -> PlanAnswer
+    ensures { λ a. ⌜ a ≡ laid (plan (now (sheet .entry))) ⌝ }
+{
+    let c = sheet_plan::check(sheet);
+    let v = c.verdict;
+    let p = c.plan;
+    let Verdict::Good = v else {
+        return refused_answer(sheet::number_of(v));
+    };
+    let dep = dep_marks(sheet);
+    let need = need_marks(sheet);
+    answer_for(p, dep, need)
+}

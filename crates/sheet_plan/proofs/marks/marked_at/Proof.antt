@@ -1,0 +1,84 @@
+-- `marked_at` meets its contract. The loop's invariant: `many` numbers before k are marked, and number j is not among them.
+-- Assumes nothing.
+use Prim.Native.Nat.{_≤_, _-_}
+use mathlib.Core.Path.{_≡_}
+use Rattle.sheet.specs.Counted.{counted}
+use Rattle.sheet.proofs.Numbers.{counted-hit, counted-miss, counted-end}
+use Rattle.sheet_plan.specs.Marks.{marked}
+use Rattle.sheet_plan.proofs.Steps.{marked-found, marked-past, marked-yes, marked-no}
+use borrow.Author.Needs.{needs}
+use native.Mathlib.Omega.{arith}
+use Rattle.sheet_plan.proofs.marks.marked_at.Statement.{statement}
+use Rattle.sheet_plan.proofs.marks.marked_at.Tie as tie
+
+abbrev Inv-loop : tie.InvT-loop
+Inv-loop t j marks many₀ k₀ many k = (k ≤ 8) × ((many ≤ j) × ((many ≤ k) × (many ≡ counted (marked marks t) k)))
+
+abbrev μ-loop : tie.MeasureT-loop
+μ-loop t j marks many₀ k₀ many k = 8 - k
+
+loop-holds : tie.Need-loop-holds Inv-loop μ-loop
+unfolding counted
+loop-holds c = search needs
+
+add-k : tie.Need-add-k Inv-loop μ-loop
+add-k c = search needs
+
+mul-if1 : tie.Need-mul-if1 Inv-loop μ-loop
+mul-if1 c = search needs
+
+add-if1 : tie.Need-add-if1 Inv-loop μ-loop
+add-if1 c = search needs
+
+mul-if1-2 : tie.Need-mul-if1-2 Inv-loop μ-loop
+mul-if1-2 c = search needs
+
+array-read-if1 : tie.Need-array-read-if1 Inv-loop μ-loop
+array-read-if1 c = search needs
+
+returns : tie.Need-returns Inv-loop μ-loop
+returns c =
+    let at-test = c .before .before in
+    let at-loop = at-test .before in
+    marked-found _ _ _ _ _ (at-loop .loop .inv .1 .1 .1) (at-test .loop-test .taken) (c .if2 .taken) (c .before .if1 .taken)
+
+add-many : tie.Need-add-many Inv-loop μ-loop
+add-many c = search needs
+
+loop-less : tie.Need-loop-less Inv-loop μ-loop
+loop-less c = search needs
+
+loop-again : tie.Need-loop-again Inv-loop μ-loop
+loop-again c =
+    let at-loop = c .before .before .before in
+    (omega arith, (omega arith, (omega arith, counted-hit _ _ _ (at-loop .loop .inv .1 .1 .1) (marked-yes _ _ _ (c .before .if1 .taken)))))
+
+loop-less-2 : tie.Need-loop-less-2 Inv-loop μ-loop
+loop-less-2 c = search needs
+
+loop-again-2 : tie.Need-loop-again-2 Inv-loop μ-loop
+loop-again-2 c = (omega arith, (omega arith, (omega arith, counted-miss _ _ _ (c .before .before .loop .inv .1 .1 .1) (marked-no _ _ _ (c .if1 .left)))))
+
+returns-2 : tie.Need-returns-2 Inv-loop μ-loop
+returns-2 c =
+    marked-past _ _ _ _ (counted-end _ _ _ _ (c .before .loop .inv .0) (c .loop-test .left) (c .before .loop .inv .1 .1 .1)) (c .before .loop .inv .1 .0)
+
+pub marked-at-spec : {M : Type 1} → statement M
+marked-at-spec =
+    tie.close
+    (tie.spec
+    Inv-loop
+    μ-loop
+    loop-holds
+    add-k
+    mul-if1
+    add-if1
+    mul-if1-2
+    array-read-if1
+    returns
+    add-many
+    loop-less
+    loop-again
+    loop-less-2
+    loop-again-2
+    returns-2)

@@ -1,0 +1,221 @@
+// The plan of a good sheet: what the calls need of it, as arrays table by table, beside the verdict.
+mod marks;
+mod outward;
+
+pub use marks::mark_of;
+use marks::marked_lists;
+use marks::marks_before;
+use marks::places_of;
+use outward::order_of;
+use sheet::Verdict;
+ghost use mathlib.Core.Path.{_≡_};
+ghost use Prim.Native.Nat.{ℕ, _+_, _*_, _≤_, _<_};
+ghost use Rattle.meaning.specs.Sheet.{sheetOf, tableCount};
+ghost use Rattle.meaning.specs.Plan.{columns, size, storeLength};
+ghost use Rattle.sheet.specs.Rules.{Counts};
+ghost use Rattle.sheet.specs.Tree.{GoodSheet};
+ghost use Rattle.sheet_plan.specs.Plans.{keptOf, showsAt, showsOf, shownOf, columnsOf, roomsOf, startsOf, planFor, emptyPlan, checkedOf};
+
+// Part t is table t's, part n (tables) the list's. Column sets have eight places for each table, from 8t on.
+pub struct Plan {
+    pub tables: usize,
+    pub root: usize,
+    // the store's length
+    pub store: usize,
+    // 1 for a table that has a side table
+    pub kept: [u64; 8],
+    // 1 at 8t + c if table t's side table shows column c
+    pub shows: [u64; 64],
+    // the columns that it shows, in rising order, from 8t on
+    pub shown: [usize; 64],
+    // of each part: how many columns its rows have, how many rows it has room for, where it begins in the store
+    pub columns: [usize; 9],
+    pub rooms: [usize; 9],
+    // and behind the list the store's end
+    pub starts: [usize; 10],
+    // the numbers of the edges, in an order from the root outward
+    pub order: [usize; 8],
+    // the place at 8t + c that column c has among those that table t's side table shows
+    pub places: [usize; 64],
+}
+
+pub struct Checked {
+    pub verdict: Verdict,
+    pub plan: Plan,
+}
+
+fn kept_marks(sheet: &[u64]) -> [u64; 8]
+    requires { ⌜ GoodSheet (now sheet) ⌝ }
+    ensures { λ m. ⌜ m ≡ keptOf (sheetOf (now (sheet .entry))) ⌝ }
+{
+    let n = sheet::tables(sheet);
+    let mut m = [0u64; 8];
+    let mut t = 0;
+    while t < n {
+        m[t] = mark_of(derive::is_kept(sheet, t));
+        t += 1;
+    }
+    m
+}
+
+// Whether table i / 8 has a column i % 8 and its side table shows it.
+fn shows_at(sheet: &[u64], i: usize) -> u64
+    requires { ⌜ GoodSheet (now sheet) ⌝ }
+    ensures { λ r. ⌜ r ≡ showsAt (sheetOf (now (sheet .entry))) i ⌝ }
+{
+    if !sheet::has_column(sheet, i / 8, i % 8) {
+        return 0;
+    }
+    mark_of(derive::is_shown(sheet, i / 8, i % 8))
+}
+
+fn shows_marks(sheet: &[u64]) -> [u64; 64]
+    requires { ⌜ GoodSheet (now sheet) ⌝ }
+    ensures { λ m. ⌜ m ≡ showsOf (sheetOf (now (sheet .entry))) ⌝ }
+{
+    let mut m = [0u64; 64];
+    let mut i = 0;
+    while i < 64 {
+        m[i] = shows_at(sheet, i);
+        i += 1;
+    }
+    m
+}
+
+// How many columns the rows of a part have: none for an unkept table, the listed columns for the list.
+fn columns_in(sheet: &[u64], kept: [u64; 8], shows: [u64; 64], part: usize) -> usize
+    requires { ⌜ GoodSheet (now sheet) × ((kept ≡ keptOf (sheetOf (now sheet)))
+        × ((shows ≡ showsOf (sheetOf (now sheet))) × (part ≤ tableCount (now sheet)))) ⌝ }
+    ensures { λ r. ⌜ r ≡ columns (sheetOf (now (sheet .entry))) part ⌝ }
+{
+    if sheet::tables(sheet) <= part {
+        return sheet::listed(sheet);
+    }
+    if kept[part] == 0 {
+        return 0;
+    }
+    marks_before(shows, part, 8)
+}
+
+fn columns_of(sheet: &[u64], kept: [u64; 8], shows: [u64; 64]) -> [usize; 9]
+    requires { ⌜ GoodSheet (now sheet) × ((kept ≡ keptOf (sheetOf (now sheet))) × (shows ≡ showsOf (sheetOf (now sheet)))) ⌝ }
+    ensures { λ r. ⌜ r ≡ columnsOf (sheetOf (now (sheet .entry))) ⌝ }
+{
+    let m = sheet::tables(sheet) + 1;
+    let mut r = [0usize; 9];
+    let mut part = 0;
+    while part < m {
+        r[part] = columns_in(sheet, kept, shows, part);
+        part += 1;
+    }
+    r
+}
+
+fn rooms_of(sheet: &[u64]) -> [usize; 9]
+    requires { ⌜ Counts (now sheet) ⌝ }
+    ensures { λ r. ⌜ r ≡ roomsOf (sheetOf (now (sheet .entry))) ⌝ }
+{
+    let m = sheet::tables(sheet) + 1;
+    let mut r = [0usize; 9];
+    let mut part = 0;
+    while part < m {
+        r[part] = sheet::room_no(sheet, part);
+        part += 1;
+    }
+    r
+}
+
+// How many words a part has room for.
+fn size_of(sheet: &[u64], rooms: [usize; 9], columns: [usize; 9], part: usize) -> usize
+    requires { ⌜ GoodSheet (now sheet) × ((rooms ≡ roomsOf (sheetOf (now sheet)))
+        × ((columns ≡ columnsOf (sheetOf (now sheet))) × (part ≤ tableCount (now sheet)))) ⌝ }
+    ensures { λ r. ⌜ (r ≡ size (sheetOf (now (sheet .entry))) part) × (r ≤ 65536) ⌝ }
+{
+    rooms[part] * columns[part]
+}
+
+// Where each part begins: behind the nine counts and the parts before it. Behind the list stands the store's end.
+fn starts_of(sheet: &[u64], rooms: [usize; 9], columns: [usize; 9]) -> [usize; 10]
+    requires { ⌜ GoodSheet (now sheet) × ((rooms ≡ roomsOf (sheetOf (now sheet))) × (columns ≡ columnsOf (sheetOf (now sheet)))) ⌝ }
+    ensures { λ r. ⌜ r ≡ startsOf (sheetOf (now (sheet .entry))) ⌝ }
+{
+    let m = sheet::tables(sheet) + 1;
+    let mut r = [0usize; 10];
+    let mut at: usize = 9;
+    let mut part = 0;
+    while part < m {
+        r[part] = at;
+        at += size_of(sheet, rooms, columns, part);
+        part += 1;
+    }
+    r[m] = at;
+    r
+}
+
+// The plan of a good sheet.
+fn plan_for(sheet: &[u64]) -> Plan
+    requires { ⌜ GoodSheet (now sheet) ⌝ }
+    ensures { λ p. ⌜ p ≡ planFor (sheetOf (now (sheet .entry))) ⌝ }
+{
+    let tables = sheet::tables(sheet);
+    let root = derive::root_of(sheet);
+    let kept = kept_marks(sheet);
+    let shows = shows_marks(sheet);
+    let shown = marked_lists(shows);
+    let columns = columns_of(sheet, kept, shows);
+    let rooms = rooms_of(sheet);
+    let starts = starts_of(sheet, rooms, columns);
+    let store = starts[tables + 1];
+    let order = order_of(sheet, root);
+    let places = places_of(shows);
+    Plan {
+        tables: tables,
+        root: root,
+        store: store,
+        kept: kept,
+        shows: shows,
+        shown: shown,
+        columns: columns,
+        rooms: rooms,
+        starts: starts,
+        order: order,
+        places: places,
+    }
+}
+
+fn empty_plan() -> Plan
+    ensures { λ p. ⌜ p ≡ emptyPlan ⌝ }
+{
+    Plan {
+        tables: 0,
+        root: 0,
+        store: 0,
+        kept: [0u64; 8],
+        shows: [0u64; 64],
+        shown: [0usize; 64],
+        columns: [0usize; 9],
+        rooms: [0usize; 9],
+        starts: [0usize; 10],
+        order: [0usize; 8],
+        places: [0usize; 64],
+    }
+}
+
+// The verdict on a sheet, and beside it the plan: all zero where the sheet is refused.
+pub fn check(sheet: &[u64]) -> Checked
+    ensures { λ r. ⌜ r ≡ checkedOf (now (sheet .entry)) ⌝ }
+{
+    let v = sheet::verdict_of(sheet);
+    let Verdict::Good = v else {
+        let p = empty_plan();
+        return Checked {
+            verdict: v,
+            plan: p,
+        };
+    };
+    let p = plan_for(sheet);
+    Checked {
+        verdict: v,
+        plan: p,
+    }
+}
