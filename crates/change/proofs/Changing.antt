@@ -95,7 +95,8 @@ module _ (sheet store : Words) (c : Change) (k : Checked) (e : k ≡ checkedOf s
 
           pub says-unsound : b ≡ false → Says (change sheet store c) (Refused 7) store
           says-unsound f =
-              says-refused (change sheet store c) 7 store (λ z. omega arith) (refuses-unsound sheet store c good (l ∙ long-is) (tests .0) (tests .1) (found ∙ f))
+              says-refused (change sheet store c) 7 store (λ z. omega arith)
+              (refuses-unsound sheet store c good (l ∙ long-is) (tests .0) (tests .1) (found ∙ f))
 
           module _ (t : b ≡ true) where
             pub is-ready : Ready sheet store (k .plan)

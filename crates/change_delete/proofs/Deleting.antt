@@ -32,49 +32,51 @@ use Rattle.change_taken.specs.Taking.{WaysTaken}
 use Rattle.change_delete.specs.Deletes.{Deletes}
 
 module _ {ws store : Words} {plan : Plan} (rd : Ready ws store plan) {t : ℕ} {r : Row} (lent : Lent ws t r)
-    (q : Bool) (eq : q ≡ qualifies (sheetOf ws) (modelOf (sheetOf ws) store) t r) (b : Bool) (eb : b ≡ oldRow (sheetOf ws) (modelOf (sheetOf ws) store) t r) where
-  -- the side table contradicts it
-  pub deletes-contradicts-side : not b ≡ true → Deletes ws store t r (Refused 8) store
-  deletes-contradicts-side h =
-      record {
-        says = λ o. says-refused (applied (sheetOf ws) store (made 2 t r o)) 8 store (λ z. omega arith)
-            (delete-contradicts-side (sheetOf ws) (ready-good rd) store (rd .sound) t (ready-table rd lent) r o (sym eb ∙ not-true b h));
-      }
-
-  module _ (h : not b ≡ false) where
-    old : oldRow (sheetOf ws) (modelOf (sheetOf ws) store) t r ≡ true
-    old = sym eb ∙ not-false b h
-
-    pub deletes-none : not q ≡ true → Deletes ws store t r (Done 0 0) store
-    deletes-none f =
+    (q : Bool) (eq : q ≡ qualifies (sheetOf ws) (modelOf (sheetOf ws) store) t r) (b : Bool) (eb : b ≡ oldRow (sheetOf ws) (modelOf (sheetOf ws) store) t r)
+  where
+    -- the side table contradicts it
+    pub deletes-contradicts-side : not b ≡ true → Deletes ws store t r (Refused 8) store
+    deletes-contradicts-side h =
         record {
-          says = λ o. says-nothing (applied (sheetOf ws) store (made 2 t r o)) store
-              (delete-none (sheetOf ws) (ready-good rd) store (rd .sound) t (ready-table rd lent) r o old (sym eq ∙ not-true q f));
+          says = λ o. says-refused (applied (sheetOf ws) store (made 2 t r o)) 8 store (λ z. omega arith)
+              (delete-contradicts-side (sheetOf ws) (ready-good rd) store (rd .sound) t (ready-table rd lent) r o (sym eb ∙ not-true b h));
         }
 
-    module _ (f : not q ≡ false) (marks : Words) (a : Taken) (m : WaysTaken ws store t r marks a) where
-      fine : qualifies (sheetOf ws) (modelOf (sheetOf ws) store) t r ≡ true
-      fine = sym eq ∙ not-false q f
+    module _ (h : not b ≡ false) where
+      old : oldRow (sheetOf ws) (modelOf (sheetOf ws) store) t r ≡ true
+      old = sym eb ∙ not-false b h
 
-      -- the list does
-      pub deletes-contradicts-list : a ≡ Contrary → Deletes ws store t r (Refused 8) store
-      deletes-contradicts-list e =
+      pub deletes-none : not q ≡ true → Deletes ws store t r (Done 0 0) store
+      deletes-none f =
           record {
-            says = λ o. says-refused (applied (sheetOf ws) store (made 2 t r o)) 8 store (λ z. omega arith)
-                (delete-contradicts-list (sheetOf ws) (ready-good rd) store (rd .sound) t (ready-table rd lent) r o old fine (subst (WaysTaken ws store t r marks) e m));
+            says = λ o. says-nothing (applied (sheetOf ws) store (made 2 t r o)) store
+                (delete-none (sheetOf ws) (ready-good rd) store (rd .sound) t (ready-table rd lent) r o old (sym eq ∙ not-true q f));
           }
 
-      -- its rows leave the list and then its side table
-      module _ (list : Part) (lies : Lies (sheetOf ws) (sheetOf ws .n) list) (mid : Words) (w : Wrote list (unmarked marks (rowsIn list store)) store mid) where
-        pub deletes-done : (k : ℕ) → a ≡ All k → (exit : Words) → Sided (sheetOf ws) t (takeRows (sideRow (sheetOf ws) t r)) mid exit → Deletes ws store t r (Done k 0) exit
-        deletes-done k e exit si =
-            let s = sheetOf ws in
-            let so = subst (WaysTaken ws store t r marks) e m in
-            let left = unmarked marks (rowsAt s store (s .n)) in
-            let many = length (walkRows s (modelOf s store) t r) in
-            let wrote : Wrote list left store mid = subst (λ (rows : Rows). Wrote list (unmarked marks rows) store mid) (rows-is s (s .n) list lies store) w in
+      module _ (f : not q ≡ false) (marks : Words) (a : Taken) (m : WaysTaken ws store t r marks a) where
+        fine : qualifies (sheetOf ws) (modelOf (sheetOf ws) store) t r ≡ true
+        fine = sym eq ∙ not-false q f
+
+        -- the list does
+        pub deletes-contradicts-list : a ≡ Contrary → Deletes ws store t r (Refused 8) store
+        deletes-contradicts-list e =
             record {
-              says = λ o. says-all s store t many 0 (takeRows (sideRow s t r) (rowsAt s store t)) left (applied s store (made 2 t r o)) k 0 exit
-                  (delete-done s (ready-good rd) store (rd .sound) t (ready-table rd lent) r o old fine marks (so .1)) (so .0) refl
-                  (both-words rd list lies left mid wrote t (ready-table rd lent) (takeRows (sideRow s t r)) exit si many 0);
+              says = λ o. says-refused (applied (sheetOf ws) store (made 2 t r o)) 8 store (λ z. omega arith)
+                  (delete-contradicts-list (sheetOf ws) (ready-good rd) store (rd .sound) t (ready-table rd lent) r o old fine (subst (WaysTaken ws store t r marks) e m));
             }
+
+        -- its rows leave the list and then its side table
+        module _ (list : Part) (lies : Lies (sheetOf ws) (sheetOf ws .n) list) (mid : Words) (w : Wrote list (unmarked marks (rowsIn list store)) store mid) where
+          pub deletes-done : (k : ℕ) → a ≡ All k → (exit : Words) → Sided (sheetOf ws) t (takeRows (sideRow (sheetOf ws) t r)) mid exit
+              → Deletes ws store t r (Done k 0) exit
+          deletes-done k e exit si =
+              let s = sheetOf ws in
+              let so = subst (WaysTaken ws store t r marks) e m in
+              let left = unmarked marks (rowsAt s store (s .n)) in
+              let many = length (walkRows s (modelOf s store) t r) in
+              let wrote : Wrote list left store mid = subst (λ (rows : Rows). Wrote list (unmarked marks rows) store mid) (rows-is s (s .n) list lies store) w in
+              record {
+                says = λ o. says-all s store t many 0 (takeRows (sideRow s t r) (rowsAt s store t)) left (applied s store (made 2 t r o)) k 0 exit
+                    (delete-done s (ready-good rd) store (rd .sound) t (ready-table rd lent) r o old fine marks (so .1)) (so .0) refl
+                    (both-words rd list lies left mid wrote t (ready-table rd lent) (takeRows (sideRow s t r)) exit si many 0);
+              }

@@ -71,7 +71,9 @@ module _ {ws store : Words} {plan : Plan} (rd : Ready ws store plan) (t : ℕ) (
   by-root e a h = by-ways (or-inl (eqb t (root (sheetOf ws))) (kept (sheetOf ws) (root (sheetOf ws))) (eq→eqb (e ∙ rd .planned .planned .root-is))) a h
 
   root-kept : (getD (plan .kept) (plan .root) 0 ≡ 0 → ⊥) → T (kept (sheetOf ws) (root (sheetOf ws)))
-  root-kept d = marked (sheetOf ws) plan (rd .planned) (root (sheetOf ws)) (ready-good rd .root-in) (λ e. d (ap (λ (u : ℕ). getD (plan .kept) u 0) (rd .planned .planned .root-is) ∙ e))
+  root-kept d =
+      marked (sheetOf ws) plan (rd .planned) (root (sheetOf ws)) (ready-good rd .root-in)
+      (λ e. d (ap (λ (u : ℕ). getD (plan .kept) u 0) (rd .planned .planned .root-is) ∙ e))
 
   -- the root has a side table
   pub by-kept : (getD (plan .kept) (plan .root) 0 ≡ 0 → ⊥) → (a : Taken) → WaysTaken ws store t r marks a → ReplacedTaken ws store t r marks a
@@ -84,7 +86,8 @@ module _ {ws store : Words} {plan : Plan} (rd : Ready ws store plan) (t : ℕ) (
     unfolding canTake
     no-way h =
         ⊎-elim (λ k. d (eqb→≡ t (root (sheetOf ws)) k ∙ sym (rd .planned .planned .root-is)))
-        (λ k. unmarked (sheetOf ws) plan (rd .planned) (root (sheetOf ws)) (ready-good rd .root-in) (ap (λ (u : ℕ). getD (plan .kept) u 0) (sym (rd .planned .planned .root-is)) ∙ e) k)
+        (λ k. unmarked (sheetOf ws) plan (rd .planned) (root (sheetOf ws)) (ready-good rd .root-in)
+        (ap (λ (u : ℕ). getD (plan .kept) u 0) (sym (rd .planned .planned .root-is)) ∙ e) k)
         (or-cases (eqb t (root (sheetOf ws))) (kept (sheetOf ws) (root (sheetOf ws))) h)
 
     pub by-key : (a : Taken) → FoundTaken ws store t r marks a → ReplacedTaken ws store t r marks a
@@ -111,6 +114,7 @@ module _ (sheet : Words) (t : ℕ) (r : Row) (marks : Words) (p : Part) (old : W
   pub given-loose : Loose p (countIn p old) mid
   given-loose = behind-loose p old (k .within) rows mid behind (countIn p old) many
 
-  pub given-settled : (exit : Words) → Wrote p (sorted (looseRows p (countIn p old) mid)) mid exit → Wrote p (sorted (altered (isMarked marks) (gives sheet t r) (rowsIn p old))) old exit
+  pub given-settled : (exit : Words) → Wrote p (sorted (looseRows p (countIn p old) mid)) mid exit
+      → Wrote p (sorted (altered (isMarked marks) (gives sheet t r) (rowsIn p old))) old exit
   unfolding rows
   given-settled = behind-settled p old (k .within) rows mid behind (countIn p old) many

@@ -60,8 +60,15 @@ module _ (s : Sheet) (g : Good s) (ws : Words) (ok : T (sound s ws)) (c : Change
         → applied s ws c ≡ done s ws (c .table) (length (x .listOut)) (length (x .listIn)) (sideAfter (modelOf s ws) (c .table) x) (listAfter (modelOf s ws) x)
     unfolding applied accepted done modelAfter after
     applied-done h k =
-        rw (agree, fits-by x e, le-leb (length (sideAfter (modelOf s ws) (c .table) x)) (room s (c .table)) h, le-leb (length (listAfter (modelOf s ws) x)) (room s (s .n)) k)
-        (ap (λ (x : Effect). done s ws (c .table) (length (x .listOut)) (length (x .listIn)) (sideAfter (modelOf s ws) (c .table) x) (listAfter (modelOf s ws) x)) e)
+        rw (
+          agree,
+          fits-by x e,
+          le-leb (length (sideAfter (modelOf s ws) (c .table) x)) (room s (c .table)) h,
+          le-leb (length (listAfter (modelOf s ws) x)) (room s (s .n)) k,
+        )
+        (ap
+        (λ (x : Effect). done s ws (c .table) (length (x .listOut)) (length (x .listIn)) (sideAfter (modelOf s ws) (c .table) x) (listAfter (modelOf s ws) x))
+        e)
 
   -- a change without an effect leaves every word as it was
   pub applied-nothing : agrees s (modelOf s ws) c ≡ true → effect s (modelOf s ws) c ≡ noEffect → applied s ws c ≡ nothing ws

@@ -87,10 +87,12 @@ module _ (s : Sheet) (g : Good s) (ws : Words) (ok : T (sound s ws)) (t : ℕ) (
       -- its shown columns enter the side table, and the list gains a row for each way
       pub insert-done : (T (kept s t) → count s ws t < room s t) → length (walkRows s (modelOf s ws) t r) + count s ws (s .n) ≤ room s (s .n)
           → applied s ws (made 1 t o r)
-          ≡ done s ws t 0 (length (walkRows s (modelOf s ws) t r)) (putRows (sideRow s t r) (rowsAt s ws t)) (sorted (rowsAt s ws (s .n) ++ walkRows s (modelOf s ws) t r))
+          ≡ done s ws t 0 (length (walkRows s (modelOf s ws) t r)) (putRows (sideRow s t r) (rowsAt s ws t))
+          (sorted (rowsAt s ws (s .n) ++ walkRows s (modelOf s ws) t r))
       unfolding insertEffect
       insert-done h k =
-          applied-done s g ws ok (made 1 t o r) l agree (insertEffect s (modelOf s ws) t r) effect-is (omega (arith, side-many, room-left)) (omega (arith, list-many))
+          applied-done s g ws ok (made 1 t o r) l agree (insertEffect s (modelOf s ws) t r) effect-is (omega (arith, side-many, room-left))
+          (omega (arith, list-many))
           ∙ done-same s ws t refl many side-is list-is
         where
           room-left : length (sideRow s t r) + count s ws t ≤ room s t

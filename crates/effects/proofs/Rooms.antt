@@ -70,7 +70,8 @@ module _ (s : Sheet) (m : Model) (many : length (m .sides) ≡ s .n) (fit : T (f
       (leb→le (length (sideAfter m t x)) (room s t) (and-fst (leb (length (sideAfter m t x)) (room s t)) (leb (length (listAfter m x)) (room s (s .n))) h))
       (leb→le (length (listAfter m x)) (room s (s .n)) (and-snd (leb (length (sideAfter m t x)) (room s t)) (leb (length (listAfter m x)) (room s (s .n))) h))))
     where
-      each : length (sideAfter m t x) ≤ room s t → length (listAfter m x) ≤ room s (s .n) → (part : ℕ) → part ≤ s .n → length (partRows (after m t x) part) ≤ room s part
+      each : length (sideAfter m t x) ≤ room s t → length (listAfter m x) ≤ room s (s .n) → (part : ℕ) → part ≤ s .n
+          → length (partRows (after m t x) part) ≤ room s part
       each h k part i =
           here-or (λ part. part ≤ s .n → length (partRows (after m t x) part) ≤ room s part) (s .n) part (λ i. rw list-own k)
           (λ d. here-or (λ part. part ≤ s .n → length (partRows (after m t x) part) ≤ room s part) t part (λ i. rw own h)

@@ -55,7 +55,8 @@ module _ (s : Sheet) (g : Good s) (ws : Words) (ok : T (sound s ws)) (t : ℕ) (
       unfolding updateEffect replacedRows
       out = go (canTake s t)
         where
-          go : (b : Bool) → Same (cond b (rowsThrough s (modelOf s ws) t r) (rowsFound s (modelOf s ws) t r)) (cond b (walkRows s (modelOf s ws) t r) (rowsFound s (modelOf s ws) t r))
+          go : (b : Bool)
+              → Same (cond b (rowsThrough s (modelOf s ws) t r) (rowsFound s (modelOf s ws) t r)) (cond b (walkRows s (modelOf s ws) t r) (rowsFound s (modelOf s ws) t r))
           go true = walk-rows s g ws ok t l r (isT q)
           go false = λ f. refl
 
@@ -111,7 +112,8 @@ module _ (s : Sheet) (g : Good s) (ws : Words) (ok : T (sound s ws)) (t : ℕ) (
       pub update-done : Tied s t r r′ → (marks : Words) → Marked (replacedRows s (modelOf s ws) t r) (rowsAt s ws (s .n)) marks
           → applied s ws (made 3 t r r′)
           ≡ done s ws t (length (replacedRows s (modelOf s ws) t r)) (length (replacedRows s (modelOf s ws) t r))
-          (putRows (sideRow s t r′) (takeRows (sideRow s t r) (rowsAt s ws t))) (sorted (altered (isMarked marks) (withColumns (s .listed) t r′) (rowsAt s ws (s .n))))
+          (putRows (sideRow s t r′) (takeRows (sideRow s t r) (rowsAt s ws t)))
+          (sorted (altered (isMarked marks) (withColumns (s .listed) t r′) (rowsAt s ws (s .n))))
       update-done ti marks h =
           let x = updateEffect s (modelOf s ws) t r r′ in
           let taken = same-length (x .listOut) (replacedRows s (modelOf s ws) t r) out in

@@ -67,7 +67,8 @@ module _ {ws store run : Words} {plan : Plan} {starts numbers : List ℕ} (st : 
       record { laid = te .laid; orders = te .orders; keyed = keyed; root-is = root-is; outward = ordered ws (plan .order) (p .order-in) (p .outward) }
 
   -- Refusal 9
-  fits-are : (b c : Bool) → every (fitsNo ws run) (tableCount ws) ≡ b → listFits (sheetOf ws) (tablesOf ws run) ≡ c → fits (sheetOf ws) (meaning (sheetOf ws) (baseOf (sheetOf ws) run)) ≡ (b && c)
+  fits-are : (b c : Bool) → every (fitsNo ws run) (tableCount ws) ≡ b → listFits (sheetOf ws) (tablesOf ws run) ≡ c
+      → fits (sheetOf ws) (meaning (sheetOf ws) (baseOf (sheetOf ws) run)) ≡ (b && c)
   unfolding tablesOf
   fits-are b c e f = fits-is (sheetOf ws) (tablesOf ws run) ∙ rw (sym (fits-all ws run) ∙ e, f)
 

@@ -31,7 +31,8 @@ use Rattle.base_run.specs.Bases.{tablesOf}
 use Rattle.fill.specs.Tested.{Stored}
 
 -- two outcomes that meet the contract are one
-pub fill-once : (sheet store base : Words) (a b : Answer) (v w : Words) → Says (fill sheet store base) a v → Says (fill sheet store base) b w → (a ≡ b) × (v ≡ w)
+pub fill-once : (sheet store base : Words) (a b : Answer) (v w : Words) → Says (fill sheet store base) a v → Says (fill sheet store base) b w
+    → (a ≡ b) × (v ≡ w)
 fill-once sheet store base a b v w x y = says-once (fill sheet store base) a b v w x y
 
 -- Refusals 1 to 4
@@ -40,7 +41,8 @@ module _ (ws : Words) (c : Checked) (e : c ≡ checkedOf ws) where
   sheet-refused store run k j r q =
       let is : k ≡ sheetRefusal ws = q ∙ ap numberOf r ∙ sym (check-refused ws c e j r) in
       let some : k ≡ 0 → ⊥ = (λ z. check-numbered ws c e j r (sym (check-refused ws c e j r) ∙ sym is ∙ z)) in
-      says-refused (fill ws store run) k store some (subst (λ (k : ℕ). fill ws store run ≡ refused k store) (sym is) (fill-sheet ws store run (λ z. some (is ∙ z))))
+      says-refused (fill ws store run) k store some
+      (subst (λ (k : ℕ). fill ws store run ≡ refused k store) (sym is) (fill-sheet ws store run (λ z. some (is ∙ z))))
 
   -- a good sheet
   module _ (g : c .verdict ≡ Verdicts.Good) where

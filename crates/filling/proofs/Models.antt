@@ -60,7 +60,9 @@ module _ (s : Sheet) (base : Tables) where
         (record {
           fits = omega arith;
           up = subst (λ (rows : Rows). T (rising rows)) (sym (cut-zero (columns s part) words)) rising-none;
-          zeros = all-drop (eqb 0) (0 * columns s part) words (all-take (eqb 0) (size s part) (drop (start s part) ws) (all-drop (eqb 0) (start s part) ws all-zero));
+          zeros =
+              all-drop (eqb 0) (0 * columns s part) words
+              (all-take (eqb 0) (size s part) (drop (start s part) ws) (all-drop (eqb 0) (start s part) ws all-zero));
         })
 
     pub zeros-stand : Stands s ws (partly s base 0)
@@ -88,7 +90,8 @@ module _ (s : Sheet) (base : Tables) where
       sides =
           ext-getD [] (set (partly s base t .sides) t (sideTable s base t)) (partly s base (t + 1) .sides)
           (length-set (partly s base t .sides) t (sideTable s base t) ∙ partly-many t ∙ sym (partly-many (t + 1))) (λ u i.
-          by-set [] (λ u rows. u < s .n → rows ≡ rowsOf (partly s base (t + 1) .sides) u) (partly s base t .sides) t (sideTable s base t) (omega (arith, partly-many t))
+          by-set [] (λ u rows. u < s .n → rows ≡ rowsOf (partly s base (t + 1) .sides) u) (partly s base t .sides) t (sideTable s base t)
+          (omega (arith, partly-many t))
           (λ i. sym (side (t + 1) t i ∙ rw (lt-ltb t (t + 1) (omega arith))))
           (λ u d i. side t u i ∙ same t u d ∙ sym (side (t + 1) u i)) u (omega (arith, i, length-set (partly s base t .sides) t (sideTable s base t), partly-many t)))
 
@@ -110,4 +113,6 @@ module _ (s : Sheet) (base : Tables) where
       ∙ (λ i. record { sides = sides i; list = theList s base })
     where
       sides : partly s base (s .n) .sides ≡ map (sideTable s base) (tables s)
-      sides = unfold partly in map-same (λ u. cond (ltb u (s .n)) (sideTable s base u) []) (sideTable s base) (tables s) (λ u m. rw (lt-ltb u (s .n) (upTo-mem (s .n) u m)))
+      sides =
+          unfold partly in map-same (λ u. cond (ltb u (s .n)) (sideTable s base u) []) (sideTable s base) (tables s)
+          (λ u m. rw (lt-ltb u (s .n) (upTo-mem (s .n) u m)))

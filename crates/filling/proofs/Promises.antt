@@ -9,7 +9,8 @@ use lib.Dec.{T}
 use lib.ListN.{length, getD}
 use Rattle.lists.specs.Lists.{at, all}
 use Rattle.lists.specs.Loops.{every}
-use Rattle.lists.proofs.Truth.{Mem, isT, T→≡, eq→eqb, eqb→≡, same-test, decided, or-inl, or-inr, or-cases, and-fst, and-snd, and-both, not→F, F→not, all-get, all-make, mem-getD}
+use Rattle.lists.proofs.Truth.{Mem, isT, T→≡, eq→eqb, eqb→≡, same-test, decided, or-inl, or-inr, or-cases, and-fst, and-snd, and-both, not→F, F→not}
+use Rattle.lists.proofs.Truth.{all-get, all-make, mem-getD}
 use Rattle.lists.proofs.Loops.{every-at, every-from}
 use Rattle.rows.specs.Rows.{Row}
 use Rattle.rows.proofs.Ranks.{mem-at}
@@ -25,7 +26,8 @@ use Rattle.filling.specs.Promises.{onceIn, metAt, keeps}
 module _ (base : Tables) (e : Edge) where
   pub keeps-loose : (e .promise ≡ 1 → ⊥) → keeps base e ≡ true
   unfolding keeps
-  keeps-loose h = T→≡ _ (or-inl (not (isPromised e)) (every (metAt base e) (length (rowsOf base (e .child)))) (F→not (isPromised e) (λ k. h (eqb→≡ (e .promise) 1 k))))
+  keeps-loose h =
+      T→≡ _ (or-inl (not (isPromised e)) (every (metAt base e) (length (rowsOf base (e .child)))) (F→not (isPromised e) (λ k. h (eqb→≡ (e .promise) 1 k))))
 
   pub keeps-promised : (b : Bool) → e .promise ≡ 1 → b ≡ every (metAt base e) (length (rowsOf base (e .child))) → keeps base e ≡ b
   unfolding keeps

@@ -32,7 +32,8 @@ module _ (m : Model) (n : ℕ) (many : length (m .sides) ≡ n) (rows : Rows) wh
   with-parts : (part : ℕ) → part ≤ n → withPart m part rows .sides ++ (withPart m part rows .list ∷ []) ≡ set (m .sides ++ (m .list ∷ [])) part rows
   with-parts part l =
       here-or (λ part. part ≤ n → withPart m part rows .sides ++ (withPart m part rows .list ∷ []) ≡ set (m .sides ++ (m .list ∷ [])) part rows) n part
-      (λ l. rw with-list (sym (subst (λ (k : ℕ). set (m .sides ++ (m .list ∷ [])) k rows ≡ m .sides ++ (rows ∷ [])) many (set-append-seam (m .sides) (m .list) [] rows))))
+      (λ l. rw with-list
+      (sym (subst (λ (k : ℕ). set (m .sides ++ (m .list ∷ [])) k rows ≡ m .sides ++ (rows ∷ [])) many (set-append-seam (m .sides) (m .list) [] rows))))
       (λ d l. let k : part < n = omega arith in rw (with-side part k) (sym (set-append-left (m .sides) (m .list ∷ []) part rows (omega arith)))) l
 
   pub with-own : (part : ℕ) → part ≤ n → partRows (withPart m part rows) part ≡ rows

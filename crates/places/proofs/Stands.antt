@@ -26,7 +26,8 @@ use Rattle.laws.proofs.Sheets.{Good}
 use Rattle.laws.proofs.Models.{part-side, part-list}
 use Rattle.laws.proofs.Stores.{sound-get, model-many, model-part, count-fits, part-long}
 use Rattle.places.specs.Stands.{slot, stop, Stands, withPart}
-use Rattle.places.proofs.Parts.{slot-table, slot-list, slot-nine, slot-absent, pieces, words-length, spliced-length, spliced-own, spliced-other, spliced-count, counted-words, counted-own, counted-other}
+use Rattle.places.proofs.Parts.{slot-table, slot-list, slot-nine, slot-absent, pieces, words-length, spliced-length, spliced-own}
+use Rattle.places.proofs.Parts.{spliced-other, spliced-count, counted-words, counted-own, counted-other}
 use Rattle.places.proofs.Models.{with-many, with-own, with-other}
 
 -- A sound store: each part is a region, and the whole stands for its model
@@ -112,7 +113,9 @@ module _ (s : Sheet) (g : Good s) (ws : Words) (m : Model) (st : Stands s ws m) 
       record {
         long = length-set spliced (slot s p) k ∙ spliced-length s ws (st .long) p i x size-x ∙ st .long;
         many = with-many m (s .n) (st .many) rows p;
-        absent = λ t a b. getD-set-other spliced (slot s p) t k 0 (slot-absent s g p t a b) ∙ spliced-count s ws (st .long) p i x size-x t (omega arith) ∙ st .absent t a b;
+        absent =
+            λ t a b. getD-set-other spliced (slot s p) t k 0 (slot-absent s g p t a b) ∙ spliced-count s ws (st .long) p i x size-x t (omega arith) ∙ st
+            .absent t a b;
         holds = λ q j. here-or Held p q own (λ d. other q j d);
       }
     where

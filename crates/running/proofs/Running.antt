@@ -39,8 +39,10 @@ As f r = f (r .sheet) (r .store) (r .asked) ≡ r .outcome
 said : (o : Outcome) (a : Answer) (exit : Words) → Says o a exit → o ≡ outcomeOf a exit
 said o a exit h = λ i. record { number = sym (h .number) i; taken = sym (h .taken) i; added = sym (h .added) i; words = sym (h .words) i }
 
-left : (o : Outcome) (number taken added : ℕ) (exit : Words) → Left o number taken added exit → o ≡ record { number = number; taken = taken; added = added; words = exit }
-left o number taken added exit h = λ i. record { number = sym (h .number-is) i; taken = sym (h .taken-is) i; added = sym (h .added-is) i; words = sym (h .words-are) i }
+left : (o : Outcome) (number taken added : ℕ) (exit : Words) → Left o number taken added exit
+    → o ≡ record { number = number; taken = taken; added = added; words = exit }
+left o number taken added exit h =
+    λ i. record { number = sym (h .number-is) i; taken = sym (h .taken-is) i; added = sym (h .added-is) i; words = sym (h .words-are) i }
 
 pub as-change : (k : ChangeCall) → As change (changed k)
 as-change (inl k) = said _ _ _ (k .promise)
@@ -66,14 +68,22 @@ answered-plan sheet = record { number = demand1 .plans sheet .number; fields = �
 pub running1 : Running1
 running1 =
     record {
-      take-any = record { plans = (λ κs a. tt, λ κs a. tt); shows = (λ κs a. tt, λ κs a. tt); fills = (λ κs a. tt, λ κs a. tt); changes = (λ κs a. tt, λ κs a. tt) };
+      take-any =
+          record {
+            plans = (λ κs a. tt, λ κs a. tt);
+            shows = (λ κs a. tt, λ κs a. tt);
+            fills = (λ κs a. tt, λ κs a. tt);
+            changes = (λ κs a. tt, λ κs a. tt);
+          };
       texts-take-any = (λ κs a. tt, λ κs a. tt, λ κs a. tt);
       changes = λ k.
           let r = changed k in
-          subst (λ (o : Outcome). Answered (changeTests (r .sheet) (r .store) (r .asked)) (r .store) o) (as-change k) (demand1 .changes (r .sheet) (r .store) (r .asked));
+          subst (λ (o : Outcome). Answered (changeTests (r .sheet) (r .store) (r .asked)) (r .store) o) (as-change k)
+          (demand1 .changes (r .sheet) (r .store) (r .asked));
       fills = λ k.
           let r = filled k in
-          subst (λ (o : Outcome). Answered (fillTests (r .sheet) (r .store) (r .asked)) (r .store) o) (as-fill k) (demand1 .fills (r .sheet) (r .store) (r .asked));
+          subst (λ (o : Outcome). Answered (fillTests (r .sheet) (r .store) (r .asked)) (r .store) o) (as-fill k)
+          (demand1 .fills (r .sheet) (r .store) (r .asked));
       shows = λ k.
           let r = showed k in
           subst (λ (o : Stretch). Shown (showTests (r .sheet) (r .store) (r .asked)) o) (as-show k) (demand1 .shows (r .sheet) (r .store) (r .asked));
@@ -124,7 +134,8 @@ kept : (sheet : Words) (base : Tables) (store : Words) (c : Change) → Right sh
 unfolding tablesAfter baseAfter
 kept sheet base store c h = record { words = h .words; taken = h .taken; added = h .added; only-room = h .only-room }
 
-after-same : (sheet : Words) (base : Tables) (store : Words) (c : Change) (o : Outcome) → change sheet store c ≡ o → baseAfter sheet base store c ≡ tablesAfter base c (o .number)
+after-same : (sheet : Words) (base : Tables) (store : Words) (c : Change) (o : Outcome) → change sheet store c ≡ o
+    → baseAfter sheet base store c ≡ tablesAfter base c (o .number)
 unfolding tablesAfter baseAfter
 after-same sheet base store c o e = ap (λ (o : Outcome). tablesAfter base c (o .number)) e
 
@@ -132,7 +143,8 @@ asks : List ChangeCall → List Change
 asks calls = map (λ (k : ChangeCall). changed k .asked) calls
 
 -- a sequence of them
-all-kept : (sheet : Words) (calls : List ChangeCall) (base : Tables) (store : Words) → Follow sheet store calls → AllRight sheet base store (asks calls) → AllKept sheet base calls
+all-kept : (sheet : Words) (calls : List ChangeCall) (base : Tables) (store : Words) → Follow sheet store calls → AllRight sheet base store (asks calls)
+    → AllKept sheet base calls
 unfolding asks
 all-kept sheet [] base store follow right = tt
 all-kept sheet (k ∷ ks) base store (on-sheet, on-store, follow) right =

@@ -15,7 +15,8 @@ use Rattle.meaning.specs.Plan.{isShown, shown, columns, size, start, storeLengt
 use Rattle.sheet.proofs.Words.{n-is}
 use Rattle.sheet.specs.Tree.{GoodSheet}
 use Rattle.sheet.proofs.Good.{zero-good, good-sheet}
-use Rattle.sheet_plan.specs.Plans.{keptAt, keptOf, showsAt, showsOf, shownAt, shownOf, columnsOf, roomAt, roomsOf, startsOf, planFor, planBeside, checkedOf}
+use Rattle.sheet_plan.specs.Plans.{keptAt, keptOf, showsAt, showsOf, shownAt, shownOf, columnsOf, roomAt, roomsOf, startsOf, planFor}
+use Rattle.sheet_plan.specs.Plans.{planBeside, checkedOf}
 use Rattle.sheet_plan.specs.Planned.{Lengths, Planned}
 use Rattle.sheet_plan.specs.declared.Plan.{Plan}
 use Rattle.sheet_plan.proofs.Shown.{width-small}

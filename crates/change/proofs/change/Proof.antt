@@ -86,7 +86,8 @@ apply-requires c κs =
     let at-if1 = at-asked .before in
     let at-enum-told = at-if1 .before .before in
     let at-check = at-enum-told .before .before .before in (
-      is-ready _ _ _ _ (at-check .check .ensures) (at-enum-told .enum-told .given .1) (at-if1 .if1 .left) _ (at-asked .asked .ensures) (at-enum-told3 .enum-told3 .given .1) _ (at-is-sound .is-sound .ensures) (not-false _ (at-if2 .if2 .left)),
+      is-ready _ _ _ _ (at-check .check .ensures) (at-enum-told .enum-told .given .1) (at-if1 .if1 .left) _ (at-asked .asked .ensures)
+          (at-enum-told3 .enum-told3 .given .1) _ (at-is-sound .is-sound .ensures) (not-false _ (at-if2 .if2 .left)),
       sym (at-asked .asked .ensures) ∙ at-enum-told3 .enum-told3 .given .1,
     )
 

@@ -15,28 +15,50 @@ is-qualified-requires c κs =
     (ready-ground (at-start .pre .0) .legible .laid, at-start .pre .1)
 
 old-row-requires : tie.Need-old-row-requires
-old-row-requires c κs = let pre = c .before .before .before .before .before .before .before .before .before .pre in (pre .0 .planned, (ready-table (pre .0) (pre .1), (pre .1 .wide, (pre .0 .sound, c .before .is-qualified .ensures))))
+old-row-requires c κs =
+    let at-is-qualified = c .before in
+    let at-start = at-is-qualified .before .before .before .before .before .before .before .before in
+    let pre = at-start .pre in
+    (pre .0 .planned, (ready-table (pre .0) (pre .1), (pre .1 .wide, (pre .0 .sound, at-is-qualified .is-qualified .ensures))))
 
 same-length : tie.Need-same-length
 same-length c = search needs
 
 returns : tie.Need-returns
-returns c = let pre = c .before .before .before .before .before .before .before .before .before .before .before .pre in deletes-contradicts-side (pre .0) (pre .1) _ (c .before .before .before .is-qualified .ensures) _ (c .before .old-row .ensures) (c .if1 .taken)
+returns c =
+    let at-old-row = c .before in
+    let at-is-qualified = at-old-row .before .before in
+    let at-start = at-is-qualified .before .before .before .before .before .before .before .before in
+    let pre = at-start .pre in
+    deletes-contradicts-side (pre .0) (pre .1) _ (at-is-qualified .is-qualified .ensures) _ (at-old-row .old-row .ensures) (c .if1 .taken)
 
 same-length-2 : tie.Need-same-length-2
 same-length-2 c = search needs
 
 returns-2 : tie.Need-returns-2
-returns-2 c = let pre = c .before .before .before .before .before .before .before .before .before .before .before .before .pre in deletes-none (pre .0) (pre .1) _ (c .before .before .before .before .is-qualified .ensures) _ (c .before .before .old-row .ensures) (c .before .if1 .left) (c .if2 .taken)
+returns-2 c =
+    let at-if1 = c .before in
+    let at-old-row = at-if1 .before in
+    let at-is-qualified = at-old-row .before .before in
+    let at-start = at-is-qualified .before .before .before .before .before .before .before .before in
+    let pre = at-start .pre in
+    deletes-none (pre .0) (pre .1) _ (at-is-qualified .is-qualified .ensures) _ (at-old-row .old-row .ensures) (at-if1 .if1 .left) (c .if2 .taken)
 
 part-of-requires : tie.Need-part-of-requires
-part-of-requires c κs = let few = ready-tables (c .before .before .before .before .before .before .before .before .before .before .before .before .pre .0) in (few .1, few .0)
+part-of-requires c κs =
+    let at-start = c .before .before .before .before .before .before .before .before .before .before .before .before in
+    let few = ready-tables (at-start .pre .0) in
+    (few .1, few .0)
 
 slice-aggregate-mark-ways : tie.Need-slice-aggregate-mark-ways
 slice-aggregate-mark-ways c = search needs
 
 mark-ways-requires : tie.Need-mark-ways-requires
-mark-ways-requires c κs = let pre = c .before .before .before .before .before .before .before .before .before .before .before .before .before .before .before .before .before .before .before .before .pre in (ready-ground (pre .0), (pre .0 .sound, (ready-list (pre .0) _ (c .before .before .before .before .before .before .before .part-of .ensures), (pre .1, refl))))
+mark-ways-requires c κs =
+    let at-part-of = c .before .before .before .before .before .before .before in
+    let at-start = at-part-of .before .before .before .before .before .before .before .before .before .before .before .before .before in
+    let pre = at-start .pre in
+    (ready-ground (pre .0), (pre .0 .sound, (ready-list (pre .0) _ (at-part-of .part-of .ensures), (pre .1, refl))))
 
 enum-known-a : tie.Need-enum-known-a
 enum-known-a c = search needs
@@ -48,22 +70,61 @@ same-length-3 : tie.Need-same-length-3
 same-length-3 c = search needs
 
 returns-3 : tie.Need-returns-3
-returns-3 c = let pre = c .before .before .before .before .before .before .before .before .before .before .before .before .before .before .before .before .before .before .before .before .before .before .before .before .pre in deletes-contradicts-list (pre .0) (pre .1) _ (c .before .before .before .before .before .before .before .before .before .before .before .before .before .before .before .before .is-qualified .ensures) _ (c .before .before .before .before .before .before .before .before .before .before .before .before .before .before .old-row .ensures) (c .before .before .before .before .before .before .before .before .before .before .before .before .before .if1 .left) (c .before .before .before .before .before .before .before .before .before .before .before .before .if2 .left) _ _ (c .before .before .before .mark-ways .ensures) (c .enum-told .given .1)
+returns-3 c =
+    let at-mark-ways = c .before .before .before in
+    let at-if2 = at-mark-ways .before .before .before .before .before .before .before .before .before in
+    let at-if1 = at-if2 .before in
+    let at-old-row = at-if1 .before in
+    let at-is-qualified = at-old-row .before .before in
+    let at-start = at-is-qualified .before .before .before .before .before .before .before .before in
+    let pre = at-start .pre in
+    deletes-contradicts-list (pre .0) (pre .1) _ (at-is-qualified .is-qualified .ensures) _ (at-old-row .old-row .ensures) (at-if1 .if1 .left)
+    (at-if2 .if2 .left) _ _ (at-mark-ways .mark-ways .ensures) (c .enum-told .given .1)
 
 slice-aggregate-take-marked : tie.Need-slice-aggregate-take-marked
 slice-aggregate-take-marked c = search needs
 
 take-marked-requires : tie.Need-take-marked-requires
-take-marked-requires c κs = let pre = c .before .before .before .before .before .before .before .before .before .before .before .before .before .before .before .before .before .before .before .before .before .before .before .before .before .before .before .pre in let lies = ready-list (pre .0) _ (c .before .before .before .before .before .before .before .before .before .before .before .before .before .before .part-of .ensures) in (list-kept _ (ready-good (pre .0)) _ (pre .0 .sound) _ lies, marks-enough _ (ready-good (pre .0)) _ (pre .0 .sound) _ lies (c .before .before .before .before .before .before .mark-ways .last .1 .1 .1 .1 .1 .1 .1 .1 .1 .1 .0) (c .before .before .before .before .before .marks2 .given))
+take-marked-requires c κs =
+    let at-marks2 = c .before .before .before .before .before in
+    let at-mark-ways = at-marks2 .before in
+    let at-part-of = at-mark-ways .before .before .before .before .before .before .before .before in
+    let at-start = at-part-of .before .before .before .before .before .before .before .before .before .before .before .before .before in
+    let pre = at-start .pre in
+    let lies = ready-list (pre .0) _ (at-part-of .part-of .ensures) in (
+      list-kept _ (ready-good (pre .0)) _ (pre .0 .sound) _ lies,
+      marks-enough _ (ready-good (pre .0)) _ (pre .0 .sound) _ lies (at-mark-ways .mark-ways .last .1 .1 .1 .1 .1 .1 .1 .1 .1 .1 .0)
+          (at-marks2 .marks2 .given),
+    )
 
 take-side-requires : tie.Need-take-side-requires
-take-side-requires c κs = let pre = c .before .before .before .before .before .before .before .before .before .before .before .before .before .before .before .before .before .before .before .before .before .before .before .before .before .before .before .before .before .before .before .pre in let lies = ready-list (pre .0) _ (c .before .before .before .before .before .before .before .before .before .before .before .before .before .before .before .before .before .before .part-of .ensures) in (pre .0 .planned, (ready-table (pre .0) (pre .1), (pre .1 .wide, half-modelled (pre .0) _ lies _ _ (c .before .before .before .take-marked .ensures))))
+take-side-requires c κs =
+    let at-take-marked = c .before .before .before in
+    let at-part-of = at-take-marked .before .before .before .before .before .before .before .before .before .before .before .before .before .before .before in
+    let at-start = at-part-of .before .before .before .before .before .before .before .before .before .before .before .before .before in
+    let pre = at-start .pre in
+    let lies = ready-list (pre .0) _ (at-part-of .part-of .ensures) in
+    (pre .0 .planned, (ready-table (pre .0) (pre .1), (pre .1 .wide, half-modelled (pre .0) _ lies _ _ (at-take-marked .take-marked .ensures))))
 
 same-length-4 : tie.Need-same-length-4
 same-length-4 c = search needs
 
 returns-4 : tie.Need-returns-4
-returns-4 c = let pre = c .before .before .before .before .before .before .before .before .before .before .before .before .before .before .before .before .before .before .before .before .before .before .before .before .before .before .before .before .before .before .before .before .before .before .pre in let lies = ready-list (pre .0) _ (c .before .before .before .before .before .before .before .before .before .before .before .before .before .before .before .before .before .before .before .before .before .part-of .ensures) in deletes-done (pre .0) (pre .1) _ (c .before .before .before .before .before .before .before .before .before .before .before .before .before .before .before .before .before .before .before .before .before .before .before .before .before .before .is-qualified .ensures) _ (c .before .before .before .before .before .before .before .before .before .before .before .before .before .before .before .before .before .before .before .before .before .before .before .before .old-row .ensures) (c .before .before .before .before .before .before .before .before .before .before .before .before .before .before .before .before .before .before .before .before .before .before .before .if1 .left) (c .before .before .before .before .before .before .before .before .before .before .before .before .before .before .before .before .before .before .before .before .before .before .if2 .left) _ _ (c .before .before .before .before .before .before .before .before .before .before .before .before .before .mark-ways .ensures) _ lies _ (c .before .before .before .before .before .before .take-marked .ensures) _ (c .before .before .before .before .before .before .before .before .before .before .a .given .1) _ (c .before .before .take-side .ensures)
+returns-4 c =
+    let at-take-side = c .before .before in
+    let at-take-marked = at-take-side .before .before .before .before in
+    let at-a = at-take-marked .before .before .before .before in
+    let at-mark-ways = at-a .before .before .before in
+    let at-part-of = at-mark-ways .before .before .before .before .before .before .before .before in
+    let at-if2 = at-part-of .before in
+    let at-if1 = at-if2 .before in
+    let at-old-row = at-if1 .before in
+    let at-is-qualified = at-old-row .before .before in
+    let at-start = at-is-qualified .before .before .before .before .before .before .before .before in
+    let pre = at-start .pre in
+    let lies = ready-list (pre .0) _ (at-part-of .part-of .ensures) in
+    deletes-done (pre .0) (pre .1) _ (at-is-qualified .is-qualified .ensures) _ (at-old-row .old-row .ensures) (at-if1 .if1 .left) (at-if2 .if2 .left) _ _
+    (at-mark-ways .mark-ways .ensures) _ lies _ (at-take-marked .take-marked .ensures) _ (at-a .a .given .1) _ (at-take-side .take-side .ensures)
 
 pub delete-spec : {M : Type 1} → statement M
 delete-spec =

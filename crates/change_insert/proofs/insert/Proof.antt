@@ -3,7 +3,8 @@
 use Rattle.list_part.proofs.Lists.{list-room}
 use Rattle.change_laws.proofs.Halves.{ready-good, ready-ground, ready-list, ready-table, half-modelled}
 use Rattle.change_added.proofs.Putting.{list-within}
-use Rattle.change_insert.proofs.Inserting.{inserts-contradicts, inserts-none, inserts-no-room-side, inserts-no-room-list, adding, half-room, inserts-done}
+use Rattle.change_insert.proofs.Inserting.{inserts-contradicts, inserts-none, inserts-no-room-side, inserts-no-room-list, adding, half-room}
+use Rattle.change_insert.proofs.Inserting.{inserts-done}
 use borrow.Author.Needs.{needs}
 use native.Mathlib.Omega.{arith}
 use Rattle.change_insert.proofs.insert.Statement.{statement}
@@ -63,10 +64,26 @@ part-of-requires : tie.Need-part-of-requires
 part-of-requires c κs = search needs
 
 mul-count : tie.Need-mul-count
-mul-count c = let w = list-within (ready-list (c .before .before .before .before .before .before .before .before .before .before .before .before .before .before .before .before .pre .0) _ (c .part-of .ensures)) (ready-ground (c .before .before .before .before .before .before .before .before .before .before .before .before .before .before .before .before .pre .0) .legible .laid) in omega (arith, w .counted)
+mul-count c =
+    let w =
+    list-within
+    (ready-list (c .before .before .before .before .before .before .before .before .before .before .before .before .before .before .before .before .pre .0) _
+    (c .part-of .ensures))
+    (ready-ground (c .before .before .before .before .before .before .before .before .before .before .before .before .before .before .before .before .pre .0)
+    .legible .laid) in
+    omega (arith, w .counted)
 
 slice-read-count : tie.Need-slice-read-count
-slice-read-count c = let w = list-within (ready-list (c .before .before .before .before .before .before .before .before .before .before .before .before .before .before .before .before .before .pre .0) _ (c .before .part-of .ensures)) (ready-ground (c .before .before .before .before .before .before .before .before .before .before .before .before .before .before .before .before .before .pre .0) .legible .laid) in omega (arith, w .counted, w .behind, w .ends)
+slice-read-count c =
+    let w =
+    list-within
+    (ready-list
+    (c .before .before .before .before .before .before .before .before .before .before .before .before .before .before .before .before .before .pre .0) _
+    (c .before .part-of .ensures))
+    (ready-ground
+    (c .before .before .before .before .before .before .before .before .before .before .before .before .before .before .before .before .before .pre .0)
+    .legible .laid) in
+    omega (arith, w .counted, w .behind, w .ends)
 
 count-ways-requires : tie.Need-count-ways-requires
 count-ways-requires c κs =
@@ -119,8 +136,34 @@ add-ways-requires c κs =
     )
 
 put-side-requires : tie.Need-put-side-requires
-put-side-requires c κs = let st = c .before .before .before .before .before .before .before .before .before .before .before .before .before .before .before .before .before .before .before .before .before .before .before .before .before .before .before .before .before .before .before .before .before .before .before .before in
-    (st .pre .0 .planned, (ready-table (st .pre .0) (st .pre .1), (st .pre .1 .wide, (half-modelled (st .pre .0) _ (ready-list (st .pre .0) _ (c .before .before .before .before .before .before .before .before .before .before .before .before .before .before .before .before .before .before .before .before .part-of .ensures)) _ _ (c .before .before .before .add-ways .ensures), half-room (c .before .before .before .before .before .before .before .before .before .before .before .before .before .before .before .before .before .before .before .before .before .before .before .before .before .before .before .before .before .before .before .before .before .before .before .before .pre .0) (c .before .before .before .before .before .before .before .before .before .before .before .before .before .before .before .before .before .before .before .before .before .before .before .before .before .before .before .before .before .before .before .before .before .before .before .before .pre .1) _ (c .before .before .before .before .before .before .before .before .before .before .before .before .before .before .before .before .before .before .before .before .before .before .before .before .before .before .before .before .before .before .before .new-key .ensures) (c .before .before .before .before .before .before .before .before .before .before .before .before .before .before .before .before .before .before .before .before .before .before .before .before .before .before .before .before .before .before .if1 .left) _ (c .before .before .before .before .before .before .before .before .before .before .before .before .before .before .before .before .before .before .before .before .before .before .before .before .before .is-qualified .ensures) (c .before .before .before .before .before .before .before .before .before .before .before .before .before .before .before .before .before .before .before .before .before .before .before .before .if2 .left) _ (c .before .before .before .before .before .before .before .before .before .before .before .before .before .before .before .before .before .before .before .before .before .before .has-room .ensures) (c .before .before .before .before .before .before .before .before .before .before .before .before .before .before .before .before .before .before .before .before .before .if3 .left) _ (ready-list (c .before .before .before .before .before .before .before .before .before .before .before .before .before .before .before .before .before .before .before .before .before .before .before .before .before .before .before .before .before .before .before .before .before .before .before .before .pre .0) _ (c .before .before .before .before .before .before .before .before .before .before .before .before .before .before .before .before .before .before .before .before .part-of .ensures)) _ (c .before .before .before .before .before .before .before .before .before .before .before .before .count-ways .ensures) (c .before .before .before .before .before .before .before .before .before .before .if4 .left) _ (c .before .before .before .add-ways .ensures)))))
+put-side-requires c κs =
+    let at-add-ways = c .before .before .before in
+    let at-if4 = at-add-ways .before .before .before .before .before .before .before in
+    let at-count-ways = at-if4 .before .before in
+    let at-part-of = at-count-ways .before .before .before .before .before .before .before .before in
+    let at-if3 = at-part-of .before in
+    let at-has-room = at-if3 .before in
+    let at-if2 = at-has-room .before .before in
+    let at-is-qualified = at-if2 .before in
+    let at-if1 = at-is-qualified .before .before .before .before .before in
+    let at-new-key = at-if1 .before in
+    let at-before = at-new-key .before .before .before .before in
+    let at-start = at-before .before in
+    let st = at-before .before in (
+      st .pre .0 .planned,
+      (
+        ready-table (st .pre .0) (st .pre .1),
+        (
+          st .pre .1 .wide,
+          (
+            half-modelled (st .pre .0) _ (ready-list (st .pre .0) _ (at-part-of .part-of .ensures)) _ _ (at-add-ways .add-ways .ensures),
+            half-room (at-start .pre .0) (at-start .pre .1) _ (at-new-key .new-key .ensures) (at-if1 .if1 .left) _ (at-is-qualified .is-qualified .ensures)
+                (at-if2 .if2 .left) _ (at-has-room .has-room .ensures) (at-if3 .if3 .left) _ (ready-list (at-start .pre .0) _ (at-part-of .part-of .ensures)) _
+                (at-count-ways .count-ways .ensures) (at-if4 .if4 .left) _ (at-add-ways .add-ways .ensures),
+          ),
+        ),
+      ),
+    )
 
 same-length-5 : tie.Need-same-length-5
 same-length-5 c = search needs

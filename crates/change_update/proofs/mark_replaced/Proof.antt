@@ -9,7 +9,10 @@ use Rattle.change_update.proofs.mark_replaced.Statement.{statement}
 use Rattle.change_update.proofs.mark_replaced.Tie as tie
 
 mark-ways-requires : tie.Need-mark-ways-requires
-mark-ways-requires c κs = let pre = c .before .before .before .before .before .before .before .before .before .before .before .pre in (ready-ground (pre .0), (pre .0 .sound, (pre .1 .0, (pre .1 .1 .0, pre .1 .1 .1))))
+mark-ways-requires c κs =
+    let at-start = c .before .before .before .before .before .before .before .before .before .before .before in
+    let pre = at-start .pre in
+    (ready-ground (pre .0), (pre .0 .sound, (pre .1 .0, (pre .1 .1 .0, pre .1 .1 .1))))
 
 same-length : tie.Need-same-length
 same-length c = search needs
@@ -31,7 +34,10 @@ element-copy-out-if2 c =
     omega (arith, root-few (ready-ground (c .before .before .before .before .before .pre .0)))
 
 mark-ways-requires-2 : tie.Need-mark-ways-requires-2
-mark-ways-requires-2 c κs = let pre = c .before .before .before .before .before .before .before .before .before .before .before .before .before .pre in (ready-ground (pre .0), (pre .0 .sound, (pre .1 .0, (pre .1 .1 .0, pre .1 .1 .1))))
+mark-ways-requires-2 c κs =
+    let at-start = c .before .before .before .before .before .before .before .before .before .before .before .before .before in
+    let pre = at-start .pre in
+    (ready-ground (pre .0), (pre .0 .sound, (pre .1 .0, (pre .1 .1 .0, pre .1 .1 .1))))
 
 same-length-2 : tie.Need-same-length-2
 same-length-2 c = search needs
@@ -45,7 +51,20 @@ returns-2 c =
     (at-if2 .if2 .taken) (at-mark-ways2 .mark-ways2 .result) (at-mark-ways2 .mark-ways2 .ensures)
 
 mark-found-requires : tie.Need-mark-found-requires
-mark-found-requires c κs = let pre = c .before .before .before .before .before .before .before .before .before .before .before .before .pre in (ready-ground (pre .0) .legible, (pre .0 .sound, (pre .1 .0, (pre .1 .1 .0, (no-way (pre .0) _ (c .before .before .before .before .before .before .before .before .before .before .before .before .args .row .now) (c .before .before .before .before .before .before .before .before .before .before .before .before .args .marks .now) (c .before .before .before .before .before .before .before .if1 .left) (c .before .before .before .before .before .if2 .left), pre .1 .1 .1)))))
+mark-found-requires c κs =
+    let at-if2 = c .before .before .before .before .before in
+    let at-if1 = at-if2 .before .before in
+    let at-start = at-if1 .before .before .before .before .before in
+    let pre = at-start .pre in (
+      ready-ground (pre .0) .legible,
+      (
+        pre .0 .sound,
+        (
+          pre .1 .0,
+          (pre .1 .1 .0, (no-way (pre .0) _ (at-start .args .row .now) (at-start .args .marks .now) (at-if1 .if1 .left) (at-if2 .if2 .left), pre .1 .1 .1)),
+        ),
+      ),
+    )
 
 same-length-3 : tie.Need-same-length-3
 same-length-3 c = search needs

@@ -14,16 +14,29 @@ slice-read-count : tie.Need-slice-read-count
 slice-read-count c = let k = c .before .before .before .before .before .pre .1 .1 .0 .within in omega (arith, k .counted, k .behind, k .ends)
 
 give-rows-requires : tie.Need-give-rows-requires
-give-rows-requires c κs = let pre = c .before .before .before .before .before .before .pre in (pre .0, (pre .1 .0, (pre .1 .1 .0, (pre .1 .1 .1 .1 .0, pre .1 .1 .1 .1 .1))))
+give-rows-requires c κs =
+    let at-start = c .before .before .before .before .before .before in
+    let pre = at-start .pre in
+    (pre .0, (pre .1 .0, (pre .1 .1 .0, (pre .1 .1 .1 .1 .0, pre .1 .1 .1 .1 .1))))
 
 settle-rows-requires : tie.Need-settle-rows-requires
-settle-rows-requires c κs = let pre = c .before .before .before .before .before .before .before .before .before .before .pre in (given-loose _ _ _ _ _ _ (pre .1 .1 .0) (pre .1 .1 .1 .0) (pre .1 .1 .1 .1 .0) _ (c .before .before .before .give-rows .ensures), omega (arith, pre .1 .1 .1 .1 .0, pre .0 .counts .listed-few))
+settle-rows-requires c κs =
+    let pre = c .before .before .before .before .before .before .before .before .before .before .pre in (
+      given-loose _ _ _ _ _ _ (pre .1 .1 .0) (pre .1 .1 .1 .0) (pre .1 .1 .1 .1 .0) _ (c .before .before .before .give-rows .ensures),
+      omega (arith, pre .1 .1 .1 .1 .0, pre .0 .counts .listed-few),
+    )
 
 same-length : tie.Need-same-length
 same-length c = search needs
 
 returns : tie.Need-returns
-returns c = let pre = c .before .before .before .before .before .before .before .before .before .before .before .before .before .pre in given-settled _ _ _ _ _ _ (pre .1 .1 .0) (pre .1 .1 .1 .0) (pre .1 .1 .1 .1 .0) _ (c .before .before .before .before .before .before .give-rows .ensures) _ (c .before .before .settle-rows .ensures)
+returns c =
+    let at-settle-rows = c .before .before in
+    let at-give-rows = at-settle-rows .before .before .before .before in
+    let at-start = at-give-rows .before .before .before .before .before .before .before in
+    let pre = at-start .pre in
+    given-settled _ _ _ _ _ _ (pre .1 .1 .0) (pre .1 .1 .1 .0) (pre .1 .1 .1 .1 .0) _ (at-give-rows .give-rows .ensures) _
+    (at-settle-rows .settle-rows .ensures)
 
 pub replace-rows-spec : {M : Type 1} → statement M
 replace-rows-spec =

@@ -29,10 +29,24 @@ run-ok-requires : tie.Need-run-ok-requires
 run-ok-requires c κs = good _ _ (c .before .before .before .before .before .check .ensures) (c .before .before .enum-told .given .1)
 
 returns-3 : tie.Need-returns-3
-returns-3 c = run-refused (stored _ _ (c .before .before .before .before .before .before .before .check .ensures) (c .before .before .before .before .enum-told .given .1) _ (c .before .before .if1 .left)) _ (sym (c .before .run-ok .ensures) ∙ not-true _ (c .if2 .taken))
+returns-3 c =
+    let at-run-ok = c .before in
+    let at-if1 = at-run-ok .before in
+    let at-enum-told = at-if1 .before .before in
+    let at-check = at-enum-told .before .before .before in
+    run-refused (stored _ _ (at-check .check .ensures) (at-enum-told .enum-told .given .1) _ (at-if1 .if1 .left)) _
+    (sym (at-run-ok .run-ok .ensures) ∙ not-true _ (c .if2 .taken))
 
 fill-run-requires : tie.Need-fill-run-requires
-fill-run-requires c κs = (stored _ _ (c .before .before .before .before .before .before .before .before .check .ensures) (c .before .before .before .before .before .enum-told .given .1) _ (c .before .before .before .if1 .left), sym (c .before .before .run-ok .ensures) ∙ not-false _ (c .before .if2 .left))
+fill-run-requires c κs =
+    let at-if2 = c .before in
+    let at-run-ok = at-if2 .before in
+    let at-if1 = at-run-ok .before in
+    let at-enum-told = at-if1 .before .before in
+    let at-check = at-enum-told .before .before .before in (
+      stored _ _ (at-check .check .ensures) (at-enum-told .enum-told .given .1) _ (at-if1 .if1 .left),
+      sym (at-run-ok .run-ok .ensures) ∙ not-false _ (at-if2 .if2 .left),
+    )
 
 same-length : tie.Need-same-length
 same-length c = search needs

@@ -9,34 +9,81 @@ use Rattle.fill.proofs.fill_lawful.Statement.{statement}
 use Rattle.fill.proofs.fill_lawful.Tie as tie
 
 sides-fit-requires : tie.Need-sides-fit-requires
-sides-fit-requires c κs = (based (c .before .before .before .before .pre .0) (c .before .before .before .before .pre .1), c .before .before .before .before .pre .0 .planned)
+sides-fit-requires c κs =
+    let at-start = c .before .before .before .before in
+    (based (at-start .pre .0) (at-start .pre .1), at-start .pre .0 .planned)
 
 returns : tie.Need-returns
-returns c = sides-refused (c .before .before .before .before .before .before .pre .0) (c .before .before .before .before .before .before .pre .1) (sym (c .before .sides-fit .ensures) ∙ not-true _ (c .if1 .taken))
+returns c =
+    let at-sides-fit = c .before in
+    let at-start = at-sides-fit .before .before .before .before .before in
+    sides-refused (at-start .pre .0) (at-start .pre .1) (sym (at-sides-fit .sides-fit .ensures) ∙ not-true _ (c .if1 .taken))
 
 part-of-requires : tie.Need-part-of-requires
 part-of-requires c κs = (omega arith, c .before .before .before .before .before .before .before .pre .0 .planned .planned .tables-few)
 
 count-list-requires : tie.Need-count-list-requires
-count-list-requires c κs = ground (c .before .before .before .before .before .before .before .before .pre .0) (c .before .before .before .before .before .before .before .before .pre .1)
+count-list-requires c κs =
+    let at-start = c .before .before .before .before .before .before .before .before in
+    ground (at-start .pre .0) (at-start .pre .1)
 
 returns-2 : tie.Need-returns-2
-returns-2 c = list-refused (c .before .before .before .before .before .before .before .before .before .before .before .pre .0) (c .before .before .before .before .before .before .before .before .before .before .before .pre .1) (sym (c .before .before .before .before .before .before .sides-fit .ensures) ∙ not-false _ (c .before .before .before .before .before .if1 .left)) _ (c .before .before .before .part-of .ensures) _ (c .before .before .count-list .ensures) (c .if2 .taken)
+returns-2 c =
+    let at-count-list = c .before .before in
+    let at-part-of = at-count-list .before in
+    let at-if1 = at-part-of .before .before in
+    let at-sides-fit = at-if1 .before in
+    let at-start = at-sides-fit .before .before .before .before .before in
+    list-refused (at-start .pre .0) (at-start .pre .1) (sym (at-sides-fit .sides-fit .ensures) ∙ not-false _ (at-if1 .if1 .left)) _
+    (at-part-of .part-of .ensures) _ (at-count-list .count-list .ensures) (c .if2 .taken)
 
 clear-requires : tie.Need-clear-requires
 clear-requires c κs = search needs
 
 write-sides-requires : tie.Need-write-sides-requires
-write-sides-requires c κs = (based (c .before .before .before .before .before .before .before .before .before .before .before .before .before .before .before .before .pre .0) (c .before .before .before .before .before .before .before .before .before .before .before .before .before .before .before .before .pre .1), (c .before .before .before .before .before .before .before .before .before .before .before .before .before .before .before .before .pre .0 .planned, (sym (c .before .before .before .before .before .before .before .before .before .before .before .sides-fit .ensures) ∙ not-false _ (c .before .before .before .before .before .before .before .before .before .before .if1 .left), cleared (c .before .before .before .before .before .before .before .before .before .before .before .before .before .before .before .before .pre .0) (c .before .before .before .before .before .before .before .before .before .before .before .before .before .before .before .before .pre .1) _ (c .before .before .before .clear .ensures))))
+write-sides-requires c κs =
+    let at-clear = c .before .before .before in
+    let at-if1 = at-clear .before .before .before .before .before .before .before in
+    let at-sides-fit = at-if1 .before in
+    let at-start = at-sides-fit .before .before .before .before .before in (
+      based (at-start .pre .0) (at-start .pre .1),
+      (
+        at-start .pre .0 .planned,
+        (
+          sym (at-sides-fit .sides-fit .ensures) ∙ not-false _ (at-if1 .if1 .left),
+          cleared (at-start .pre .0) (at-start .pre .1) _ (at-clear .clear .ensures),
+        ),
+      ),
+    )
 
 write-list-requires : tie.Need-write-list-requires
-write-list-requires c κs = (ground (c .before .before .before .before .before .before .before .before .before .before .before .before .before .before .before .before .before .before .before .before .pre .0) (c .before .before .before .before .before .before .before .before .before .before .before .before .before .before .before .before .before .before .before .before .pre .1), blank (c .before .before .before .before .before .before .before .before .before .before .before .before .before .before .before .before .before .before .before .before .pre .0) (c .before .before .before .before .before .before .before .before .before .before .before .before .before .before .before .before .before .before .before .before .pre .1) (sym (c .before .before .before .before .before .before .before .before .before .before .before .before .before .before .before .sides-fit .ensures) ∙ not-false _ (c .before .before .before .before .before .before .before .before .before .before .before .before .before .before .if1 .left)) _ (c .before .before .before .before .before .before .before .before .before .before .before .before .part-of .ensures) _ (c .before .before .before .before .before .before .before .before .before .before .before .count-list .ensures) (c .before .before .before .before .before .before .before .before .before .if2 .left) _ (c .before .before .before .write-sides .ensures))
+write-list-requires c κs =
+    let at-write-sides = c .before .before .before in
+    let at-if2 = at-write-sides .before .before .before .before .before .before in
+    let at-count-list = at-if2 .before .before in
+    let at-part-of = at-count-list .before in
+    let at-if1 = at-part-of .before .before in
+    let at-sides-fit = at-if1 .before in
+    let at-start = at-sides-fit .before .before .before .before .before in (
+      ground (at-start .pre .0) (at-start .pre .1),
+      blank (at-start .pre .0) (at-start .pre .1) (sym (at-sides-fit .sides-fit .ensures) ∙ not-false _ (at-if1 .if1 .left)) _
+          (at-part-of .part-of .ensures) _ (at-count-list .count-list .ensures) (at-if2 .if2 .left) _ (at-write-sides .write-sides .ensures),
+    )
 
 same-length : tie.Need-same-length
 same-length c = search needs
 
 returns-3 : tie.Need-returns-3
-returns-3 c = filled-says (c .before .before .before .before .before .before .before .before .before .before .before .before .before .before .before .before .before .before .before .before .before .before .before .pre .0) (c .before .before .before .before .before .before .before .before .before .before .before .before .before .before .before .before .before .before .before .before .before .before .before .pre .1) (sym (c .before .before .before .before .before .before .before .before .before .before .before .before .before .before .before .before .before .before .sides-fit .ensures) ∙ not-false _ (c .before .before .before .before .before .before .before .before .before .before .before .before .before .before .before .before .before .if1 .left)) _ (c .before .before .before .before .before .before .before .before .before .before .before .before .before .before .before .part-of .ensures) _ (c .before .before .before .before .before .before .before .before .before .before .before .before .before .before .count-list .ensures) (c .before .before .before .before .before .before .before .before .before .before .before .before .if2 .left) _ (c .before .before .write-list .ensures)
+returns-3 c =
+    let at-write-list = c .before .before in
+    let at-if2 = at-write-list .before .before .before .before .before .before .before .before .before .before in
+    let at-count-list = at-if2 .before .before in
+    let at-part-of = at-count-list .before in
+    let at-if1 = at-part-of .before .before in
+    let at-sides-fit = at-if1 .before in
+    let at-start = at-sides-fit .before .before .before .before .before in
+    filled-says (at-start .pre .0) (at-start .pre .1) (sym (at-sides-fit .sides-fit .ensures) ∙ not-false _ (at-if1 .if1 .left)) _
+    (at-part-of .part-of .ensures) _ (at-count-list .count-list .ensures) (at-if2 .if2 .left) _ (at-write-list .write-list .ensures)
 
 pub fill-lawful-spec : {M : Type 1} → statement M
 fill-lawful-spec =

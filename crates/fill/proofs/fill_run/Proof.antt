@@ -31,13 +31,29 @@ is-lawful-requires : tie.Need-is-lawful-requires
 is-lawful-requires c κs = (c .before .before .before .before .before .before .starts-of .ensures, c .before .before .before .order-tables .ensures)
 
 returns : tie.Need-returns
-returns c = lawful-refused (c .before .before .before .before .before .before .before .before .before .before .before .before .pre .0) _ (c .before .before .before .before .before .before .before .before .before .before .before .before .pre .1) (sym (c .before .is-lawful .ensures) ∙ not-true _ (c .if1 .taken))
+returns c =
+    let at-is-lawful = c .before in
+    let at-start = at-is-lawful .before .before .before .before .before .before .before .before .before .before .before in
+    lawful-refused (at-start .pre .0) _ (at-start .pre .1) (sym (at-is-lawful .is-lawful .ensures) ∙ not-true _ (c .if1 .taken))
 
 slice-aggregate-fill-lawful : tie.Need-slice-aggregate-fill-lawful
 slice-aggregate-fill-lawful c = search needs
 
 fill-lawful-requires : tie.Need-fill-lawful-requires
-fill-lawful-requires c κs = (c .before .before .before .before .before .before .before .before .before .before .before .before .before .before .pre .0, record { laid = c .before .before .before .before .before .before .before .before .before .before .starts-of .ensures; orders = c .before .before .before .before .before .before .before .order-tables .ensures; counts = c .before .before .before .before .before .before .before .before .before .before .before .before .before .before .pre .1; lawful = sym (c .before .before .before .is-lawful .ensures) ∙ not-false _ (c .before .before .if1 .left) })
+fill-lawful-requires c κs =
+    let at-if1 = c .before .before in
+    let at-is-lawful = at-if1 .before in
+    let at-order-tables = at-is-lawful .before .before .before .before in
+    let at-starts-of = at-order-tables .before .before .before in
+    let at-start = at-starts-of .before .before .before .before in (
+      at-start .pre .0,
+      record {
+        laid = at-starts-of .starts-of .ensures;
+        orders = at-order-tables .order-tables .ensures;
+        counts = at-start .pre .1;
+        lawful = sym (at-is-lawful .is-lawful .ensures) ∙ not-false _ (at-if1 .if1 .left);
+      },
+    )
 
 same-length : tie.Need-same-length
 same-length c = search needs

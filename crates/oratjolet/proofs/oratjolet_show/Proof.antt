@@ -16,13 +16,19 @@ check-requires : tie.Need-check-requires
 check-requires c κs = search needs
 
 mul-first : tie.Need-mul-first
-mul-first c = let h = part-in _ _ _ _ _ (c .before .before .before .show .ensures .gives) (c .before .before .if1 .left) _ (c .before .check .ensures) in omega arith
+mul-first c =
+    let h = part-in _ _ _ _ _ (c .before .before .before .show .ensures .gives) (c .before .before .if1 .left) _ (c .before .check .ensures) in
+    omega arith
 
 element-copy-out-first : tie.Need-element-copy-out-first
 element-copy-out-first c = part-in _ _ _ _ _ (c .before .before .before .show .ensures .gives) (c .before .before .if1 .left) _ (c .before .check .ensures)
 
 returns-2 : tie.Need-returns-2
-returns-2 c = shown-rows _ _ _ _ _ (c .before .before .before .before .show .ensures .gives) (c .before .before .before .if1 .left) _ (c .before .before .check .ensures)
+returns-2 c =
+    let at-check = c .before .before in
+    let at-if1 = at-check .before in
+    let at-show = at-if1 .before in
+    shown-rows _ _ _ _ _ (at-show .show .ensures .gives) (at-if1 .if1 .left) _ (at-check .check .ensures)
 
 pub oratjolet-show-spec : {M : Type 1} → statement M
 oratjolet-show-spec =

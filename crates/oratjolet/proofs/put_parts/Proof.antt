@@ -22,7 +22,16 @@ same-length : tie.Need-same-length
 same-length c = search needs
 
 returns : tie.Need-returns
-returns c = (wrote-then (c .before .before .before .before .before .before .before .put-places .ensures) (c .before .before .put-places2 .ensures), omega (arith, c .before .before .before .before .before .before .before .put-places .ensures .end-is, c .before .before .put-places2 .ensures .end-is, slice-aggregate-put-places (c .before .before .before .before .before .before .before .before .before), slice-aggregate-put-places-2 (c .before .before .before .before)))
+returns c = (
+  wrote-then (c .before .before .before .before .before .before .before .put-places .ensures) (c .before .before .put-places2 .ensures),
+  omega (
+    arith,
+    c .before .before .before .before .before .before .before .put-places .ensures .end-is,
+    c .before .before .put-places2 .ensures .end-is,
+    slice-aggregate-put-places (c .before .before .before .before .before .before .before .before .before),
+    slice-aggregate-put-places-2 (c .before .before .before .before),
+  ),
+)
 
 pub put-parts-spec : {M : Type 1} → statement M
 put-parts-spec =

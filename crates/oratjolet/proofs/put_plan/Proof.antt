@@ -20,17 +20,44 @@ put-requires-2 : tie.Need-put-requires-2
 put-requires-2 c κs = omega (arith, c .before .before .before .before .put .ensures .end-is, slice-aggregate-put-2 (c .before))
 
 put-sets-requires : tie.Need-put-sets-requires
-put-sets-requires c κs = omega (arith, c .before .before .before .before .before .before .before .before .put .ensures .end-is, c .before .before .before .put2 .ensures .end-is, slice-aggregate-put-2 (c .before .before .before .before .before))
+put-sets-requires c κs =
+    omega (
+      arith,
+      c .before .before .before .before .before .before .before .before .put .ensures .end-is,
+      c .before .before .before .put2 .ensures .end-is,
+      slice-aggregate-put-2 (c .before .before .before .before .before),
+    )
 
 put-parts-requires : tie.Need-put-parts-requires
-put-parts-requires c κs = omega (arith, c .before .before .before .before .before .before .before .before .before .before .before .before .put .ensures .end-is, c .before .before .before .before .before .before .before .put2 .ensures .end-is, slice-aggregate-put-2 (c .before .before .before .before .before .before .before .before .before), c .before .before .before .put-sets .ensures .1)
+put-parts-requires c κs =
+    omega (
+      arith,
+      c .before .before .before .before .before .before .before .before .before .before .before .before .put .ensures .end-is,
+      c .before .before .before .before .before .before .before .put2 .ensures .end-is,
+      slice-aggregate-put-2 (c .before .before .before .before .before .before .before .before .before),
+      c .before .before .before .put-sets .ensures .1,
+    )
 
 same-length : tie.Need-same-length
 same-length c = search needs
 
 returns : tie.Need-returns
 unfolding planWords
-returns c = (wrote-then (wrote-then (wrote-then (c .before .before .before .before .before .before .before .before .before .before .before .before .before .before .before .put .ensures) (c .before .before .before .before .before .before .before .before .before .before .put2 .ensures)) (c .before .before .before .before .before .before .put-sets .ensures .0)) (c .before .before .put-parts .ensures .0), omega (arith, c .before .before .before .before .before .before .before .before .before .before .before .before .before .before .before .put .ensures .end-is, c .before .before .before .before .before .before .before .before .before .before .put2 .ensures .end-is, slice-aggregate-put-2 (c .before .before .before .before .before .before .before .before .before .before .before .before), c .before .before .before .before .before .before .put-sets .ensures .1, c .before .before .put-parts .ensures .1))
+returns c = (
+  wrote-then
+      (wrote-then
+      (wrote-then (c .before .before .before .before .before .before .before .before .before .before .before .before .before .before .before .put .ensures)
+      (c .before .before .before .before .before .before .before .before .before .before .put2 .ensures))
+      (c .before .before .before .before .before .before .put-sets .ensures .0)) (c .before .before .put-parts .ensures .0),
+  omega (
+    arith,
+    c .before .before .before .before .before .before .before .before .before .before .before .before .before .before .before .put .ensures .end-is,
+    c .before .before .before .before .before .before .before .before .before .before .put2 .ensures .end-is,
+    slice-aggregate-put-2 (c .before .before .before .before .before .before .before .before .before .before .before .before),
+    c .before .before .before .before .before .before .put-sets .ensures .1,
+    c .before .before .put-parts .ensures .1,
+  ),
+)
 
 pub put-plan-spec : {M : Type 1} → statement M
 put-plan-spec =

@@ -28,7 +28,20 @@ same-length : tie.Need-same-length
 same-length c = search needs
 
 returns : tie.Need-returns
-returns c = (wrote-then (wrote-then (c .before .before .before .before .before .before .before .before .before .before .before .before .put .ensures) (c .before .before .before .before .before .before .before .put2 .ensures)) (c .before .before .put3 .ensures), omega (arith, c .before .before .before .before .before .before .before .before .before .before .before .before .put .ensures .end-is, c .before .before .before .before .before .before .before .put2 .ensures .end-is, c .before .before .put3 .ensures .end-is, slice-aggregate-put (c .before .before .before .before .before .before .before .before .before .before .before .before .before .before), slice-aggregate-put-2 (c .before .before .before .before .before .before .before .before .before), slice-aggregate-put-3 (c .before .before .before .before)))
+returns c = (
+  wrote-then
+      (wrote-then (c .before .before .before .before .before .before .before .before .before .before .before .before .put .ensures)
+      (c .before .before .before .before .before .before .before .put2 .ensures)) (c .before .before .put3 .ensures),
+  omega (
+    arith,
+    c .before .before .before .before .before .before .before .before .before .before .before .before .put .ensures .end-is,
+    c .before .before .before .before .before .before .before .put2 .ensures .end-is,
+    c .before .before .put3 .ensures .end-is,
+    slice-aggregate-put (c .before .before .before .before .before .before .before .before .before .before .before .before .before .before),
+    slice-aggregate-put-2 (c .before .before .before .before .before .before .before .before .before),
+    slice-aggregate-put-3 (c .before .before .before .before),
+  ),
+)
 
 pub put-sets-spec : {M : Type 1} → statement M
 put-sets-spec =
