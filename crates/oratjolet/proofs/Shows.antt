@@ -66,7 +66,7 @@ module _ (sheet store : Words) (part : ℕ) where
       plan-is : Planned (sheetOf sheet) (c .plan)
       plan-is = rw e (planned sheet (accepted zero-is .0))
 
-      pub part-in : part < 10
+      pub part-in : part < 9
       part-in = omega (arith, accepted zero-is .1, plan-is .tables-are, plan-is .tables-few)
 
       start-is : getD (c .plan .starts) part 0 ≡ start (sheetOf sheet) part

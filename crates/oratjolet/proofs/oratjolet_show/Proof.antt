@@ -21,7 +21,9 @@ mul-first c =
     omega arith
 
 element-copy-out-first : tie.Need-element-copy-out-first
-element-copy-out-first c = part-in _ _ _ _ _ (c .before .before .before .show .ensures .gives) (c .before .before .if1 .left) _ (c .before .check .ensures)
+element-copy-out-first c =
+    let h = part-in _ _ _ _ _ (c .before .before .before .show .ensures .gives) (c .before .before .if1 .left) _ (c .before .check .ensures) in
+    omega arith
 
 returns-2 : tie.Need-returns-2
 returns-2 c =
