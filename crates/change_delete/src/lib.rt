@@ -1,6 +1,7 @@
 // A delete below its tests 1 to 7, on a sound store: contradiction, and then the list's rows and the side row leave.
 use change_taken::Taken;
 use sheet::CONTRADICTION;
+use sheet::ROOM;
 use sheet_plan::Plan;
 use store::Answer;
 ghost use Rattle.walk.specs.Grounds.{Lent};
@@ -21,7 +22,7 @@ pub fn delete(sheet: &[u64], plan: Plan, store: &mut [u64], table: usize, row: &
         return Answer::Done(0, 0);
     }
     let list = store::part_of(plan, plan.tables);
-    let mut marks = [0u16; 4096];
+    let mut marks = [0u16; ROOM];
     let a = change_taken::mark_ways(
         sheet,
         plan.root,

@@ -1,6 +1,7 @@
 // An update below its tests 1 to 7, on a sound store: contradiction, and then the list's rows and the side row are replaced.
 use change_taken::Taken;
 use sheet::CONTRADICTION;
+use sheet::ROOM;
 use sheet_plan::Plan;
 use store::Answer;
 use store::Part;
@@ -8,6 +9,7 @@ ghost use mathlib.Core.Path.{_≡_};
 ghost use Prim.Native.Nat.{ℕ, _<_, _≤_};
 ghost use lib.ListN.{length, replicate};
 ghost use Rattle.rows.specs.Rows.{sorted};
+ghost use Rattle.meaning.specs.Limits.{mostRoom};
 ghost use Rattle.meaning.specs.Sheet.{sheetOf, listedCount};
 ghost use Rattle.sheet.specs.Rules.{Rules};
 ghost use Rattle.walks.specs.Marks.{altered, isMarked};
@@ -31,7 +33,7 @@ fn mark_replaced(
     requires { ⌜ Ready (now sheet) (now store) plan ⌝ }
     requires { ⌜ Lies (sheetOf (now sheet)) (sheetOf (now sheet) .n) list ⌝ }
     requires { ⌜ Lent (now sheet) table (now row) ⌝ }
-    requires { ⌜ now marks ≡ replicate 4096 0 ⌝ }
+    requires { ⌜ now marks ≡ replicate mostRoom 0 ⌝ }
     ensures { λ a. ⌜ ReplacedTaken (now (sheet .entry)) (now (store .entry)) table (now (row .entry)) (now (marks .exit)) a ⌝ }
 {
     let root = plan.root;
@@ -125,7 +127,7 @@ pub fn update(
         return Answer::Done(0, 0);
     }
     let list = store::part_of(plan, plan.tables);
-    let mut marks = [0u16; 4096];
+    let mut marks = [0u16; ROOM];
     let a = mark_replaced(sheet, plan, store, list, table, old, &mut marks);
     let Taken::All(k) = a else {
         return Answer::Refused(CONTRADICTION);

@@ -5,6 +5,7 @@ ghost use mathlib.Core.Path.{_≡_};
 ghost use Prim.Native.Nat.{ℕ, _<_, _≤_};
 ghost use lib.ListN.{length};
 ghost use Rattle.rows.specs.Rows.{sorted};
+ghost use Rattle.meaning.specs.Limits.{mostListed};
 ghost use Rattle.meaning.specs.Sheet.{listedCount};
 ghost use Rattle.sheet.specs.Rules.{Rules};
 ghost use Rattle.store.specs.Parts.{countIn, Within, Kept, Wrote};
@@ -45,7 +46,7 @@ pub fn give_rows(sheet: &[u64], store: &mut [u64], p: Part, marks: &[u16], t: us
 // The first count rows of the part, of which `loose` may be out of place, are put in order and are its rows from then on.
 pub fn settle_rows(store: &mut [u64], p: Part, count: usize, loose: usize)
     requires { ⌜ Loose p count (now store) ⌝ }
-    requires { ⌜ p .columns ≤ 16 ⌝ }
+    requires { ⌜ p .columns ≤ mostListed ⌝ }
     ensures { λ _. ⌜ Wrote p (sorted (looseRows p count (now (store .entry)))) (now (store .entry)) (now (store .exit)) ⌝ }
 {
     let slot = p.slot;

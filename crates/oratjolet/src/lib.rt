@@ -1,5 +1,7 @@
 // The face: the calls in one place, exported to C and Rust. A call's result is its number; what else it answers goes to words that the caller lends.
 use plan_answer::PlanAnswer;
+use sheet::PLACES;
+use sheet::TABLES;
 use store::Answer;
 ghost use mathlib.Core.Path.{_≡_};
 ghost use Prim.Native.Nat.{_+_, _≤_};
@@ -10,6 +12,9 @@ ghost use Rattle.meaning.specs.Fill.{fill};
 ghost use Rattle.change_asked.specs.Asked.{changeOf};
 ghost use Rattle.text.specs.Writing.{Wrote};
 ghost use Rattle.oratjolet.specs.Exports.{planWords, Planned, Shown, Told, Left};
+
+// What the plan call answers: four numbers, a mark for each table, three sets of marks, and where each table's part begins and its room.
+const PLAN_WORDS: usize = 4 + TABLES + 3 * PLACES + 2 * TABLES;
 
 // Writes the words from `at` on, and answers where they end.
 fn put(words: &[u64], out: &mut [u64], at: usize) -> usize
@@ -39,9 +44,9 @@ fn put_places(places: &[usize], out: &mut [u64], at: usize) -> usize
 
 // Writes the three sets of marks.
 fn put_sets(
-    columns: [u64; 64],
-    dep: [u64; 64],
-    need: [u64; 64],
+    columns: [u64; PLACES],
+    dep: [u64; PLACES],
+    need: [u64; PLACES],
     out: &mut [u64],
     at: usize,
 ) -> usize
@@ -55,7 +60,7 @@ fn put_sets(
 }
 
 // Writes the numbers of each table: where its part of the store begins, and its room.
-fn put_parts(starts: [usize; 8], rooms: [usize; 8], out: &mut [u64], at: usize) -> usize
+fn put_parts(starts: [usize; TABLES], rooms: [usize; TABLES], out: &mut [u64], at: usize) -> usize
     requires { ⌜ at + 16 ≤ length (now out) ⌝ }
     ensures { λ r. ⌜ Wrote (now (out .entry)) at (starts ++ rooms) (now (out .exit)) r ⌝ }
     ensures { λ r. ⌜ r ≡ at + 16 ⌝ }
@@ -85,7 +90,7 @@ fn put_plan(a: PlanAnswer, out: &mut [u64]) -> usize
 
 // The plan call: its number, and the whole answer in the lent words.
 #[no_mangle]
-pub extern "C" fn oratjolet_plan(sheet: &[u64], answer: &mut [u64; 220]) -> u64
+pub extern "C" fn oratjolet_plan(sheet: &[u64], answer: &mut [u64; PLAN_WORDS]) -> u64
     ensures { λ k. ⌜ Planned (now (sheet .entry)) k (now (answer .exit)) ⌝ }
 {
     let a = plan_answer::plan_of(sheet);

@@ -69,7 +69,7 @@ fn main() {
         return;
     }
     let reader = step.reader;
-    let mut out = [0u8; 1024];
+    let mut out = [0u8; text::PAGE];
     let n = text::reply(reader, &mut out);
     io::write_all(STDOUT_FILENO, &out[..n]);
 }

@@ -1,10 +1,14 @@
 // The plan call: any run of words to the whole plan, or to the number of the refusal.
+use sheet::COLUMNS;
+use sheet::PLACES;
+use sheet::TABLES;
 use sheet::Verdict;
 use sheet_plan::Plan;
 use sheet_plan::mark_of;
 ghost use mathlib.Core.Path.{_≡_};
-ghost use Prim.Native.Nat.{ℕ, _≤_, _<_};
+ghost use Prim.Native.Nat.{_*_, ℕ, _≤_, _<_};
 ghost use lib.ListN.{length};
+ghost use Rattle.meaning.specs.Limits.{mostTables, mostColumns};
 ghost use Rattle.meaning.specs.Plan.{plan};
 ghost use Rattle.meaning.specs.Sheet.{sheetOf};
 ghost use Rattle.sheet.specs.Tree.{GoodSheet};
@@ -19,25 +23,25 @@ pub struct PlanAnswer {
     // the store's length
     pub store: usize,
     // of each table: 1 if it has a side table
-    pub kept: [u64; 8],
+    pub kept: [u64; TABLES],
     // 1 at 8t + c if table t's side table shows column c; at 8t + u if u is in Dep(t), in Need(t)
-    pub columns: [u64; 64],
-    pub dep: [u64; 64],
-    pub need: [u64; 64],
+    pub columns: [u64; PLACES],
+    pub dep: [u64; PLACES],
+    pub need: [u64; PLACES],
     // where table t's part of the store begins, and for how many rows it has room
-    pub starts: [usize; 8],
-    pub rooms: [usize; 8],
+    pub starts: [usize; TABLES],
+    pub rooms: [usize; TABLES],
 }
 
 // 1 at 8t + u if u is in Dep(t).
-fn dep_marks(sheet: &[u64]) -> [u64; 64]
+fn dep_marks(sheet: &[u64]) -> [u64; PLACES]
     requires { ⌜ GoodSheet (now sheet) ⌝ }
     ensures { λ m. ⌜ m ≡ depOf (sheetOf (now (sheet .entry))) ⌝ }
 {
-    let mut m = [0u64; 64];
+    let mut m = [0u64; PLACES];
     let mut i = 0;
-    while i < 64 {
-        m[i] = mark_of(derive::depends(sheet, i / 8, i % 8, 1));
+    while i < PLACES {
+        m[i] = mark_of(derive::depends(sheet, i / TABLES, i % TABLES, 1));
         i += 1;
     }
     m
@@ -49,19 +53,19 @@ fn need_at(sheet: &[u64], i: usize) -> u64
     ensures { λ r. ⌜ r ≡ needAt (sheetOf (now (sheet .entry))) i ⌝ }
 {
     let n = sheet::tables(sheet);
-    if n <= i / 8 {
+    if n <= i / TABLES {
         return 0;
     }
-    mark_of(derive::needs(sheet, i / 8, i % 8, n))
+    mark_of(derive::needs(sheet, i / TABLES, i % TABLES, n))
 }
 
-fn need_marks(sheet: &[u64]) -> [u64; 64]
+fn need_marks(sheet: &[u64]) -> [u64; PLACES]
     requires { ⌜ GoodSheet (now sheet) ⌝ }
     ensures { λ m. ⌜ m ≡ needOf (sheetOf (now (sheet .entry))) ⌝ }
 {
-    let mut m = [0u64; 64];
+    let mut m = [0u64; PLACES];
     let mut i = 0;
-    while i < 64 {
+    while i < PLACES {
         m[i] = need_at(sheet, i);
         i += 1;
     }
@@ -69,22 +73,22 @@ fn need_marks(sheet: &[u64]) -> [u64; 64]
 }
 
 // The mark of column i % 8 of table i / 8: none for an unkept table.
-fn kept_column(kept: [u64; 8], shows: [u64; 64], i: usize) -> u64
-    requires { ⌜ i < 64 ⌝ }
+fn kept_column(kept: [u64; TABLES], shows: [u64; PLACES], i: usize) -> u64
+    requires { ⌜ i < mostTables * mostColumns ⌝ }
     ensures { λ r. ⌜ r ≡ keptColumn kept shows i ⌝ }
 {
-    if kept[i / 8] == 1 {
+    if kept[i / COLUMNS] == 1 {
         return shows[i];
     }
     0
 }
 
-fn kept_columns(kept: [u64; 8], shows: [u64; 64]) -> [u64; 64]
+fn kept_columns(kept: [u64; TABLES], shows: [u64; PLACES]) -> [u64; PLACES]
     ensures { λ r. ⌜ r ≡ keptColumns kept shows ⌝ }
 {
-    let mut r = [0u64; 64];
+    let mut r = [0u64; PLACES];
     let mut i = 0;
-    while i < 64 {
+    while i < PLACES {
         r[i] = kept_column(kept, shows, i);
         i += 1;
     }
@@ -92,12 +96,12 @@ fn kept_columns(kept: [u64; 8], shows: [u64; 64]) -> [u64; 64]
 }
 
 // What stands at the first n of the parts: the tables'.
-fn first_parts(parts: &[usize], n: usize) -> [usize; 8]
-    requires { ⌜ n ≤ 8 ⌝ }
+fn first_parts(parts: &[usize], n: usize) -> [usize; TABLES]
+    requires { ⌜ n ≤ mostTables ⌝ }
     requires { ⌜ n ≤ length (now parts) ⌝ }
     ensures { λ r. ⌜ r ≡ firstParts (now (parts .entry)) n ⌝ }
 {
-    let mut r = [0usize; 8];
+    let mut r = [0usize; TABLES];
     let mut t = 0;
     while t < n {
         r[t] = parts[t];
@@ -107,8 +111,8 @@ fn first_parts(parts: &[usize], n: usize) -> [usize; 8]
 }
 
 // The answer from the plan that every call has, and the marks of Dep and Need, which this call alone shows.
-fn answer_for(p: Plan, dep: [u64; 64], need: [u64; 64]) -> PlanAnswer
-    requires { ⌜ p .tables ≤ 8 ⌝ }
+fn answer_for(p: Plan, dep: [u64; PLACES], need: [u64; PLACES]) -> PlanAnswer
+    requires { ⌜ p .tables ≤ mostTables ⌝ }
     requires { ⌜ Lengths p ⌝ }
     ensures { λ a. ⌜ a ≡ answerFor p dep need ⌝ }
 {
@@ -142,12 +146,12 @@ fn refused_answer(number: u64) -> PlanAnswer
         tables: 0,
         root: 0,
         store: 0,
-        kept: [0u64; 8],
-        columns: [0u64; 64],
-        dep: [0u64; 64],
-        need: [0u64; 64],
-        starts: [0usize; 8],
-        rooms: [0usize; 8],
+        kept: [0u64; TABLES],
+        columns: [0u64; PLACES],
+        dep: [0u64; PLACES],
+        need: [0u64; PLACES],
+        starts: [0usize; TABLES],
+        rooms: [0usize; TABLES],
     }
 }
 

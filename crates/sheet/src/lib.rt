@@ -21,6 +21,7 @@ pub use limits::PARTS;
 pub use limits::PLACES;
 pub use limits::ROOM;
 pub use limits::ROWS;
+pub use limits::SHEET_WORDS;
 pub use limits::TABLES;
 pub use limits::WRONG_LENGTH;
 pub use reading::Condition;

@@ -7,6 +7,10 @@ use marks::marked_lists;
 use marks::marks_before;
 use marks::places_of;
 use outward::order_of;
+use sheet::COLUMNS;
+use sheet::PARTS;
+use sheet::PLACES;
+use sheet::TABLES;
 use sheet::Verdict;
 ghost use mathlib.Core.Path.{_≡_};
 ghost use Prim.Native.Nat.{ℕ, _+_, _*_, _≤_, _<_};
@@ -23,20 +27,20 @@ pub struct Plan {
     // the store's length
     pub store: usize,
     // 1 for a table that has a side table
-    pub kept: [u64; 8],
+    pub kept: [u64; TABLES],
     // 1 at 8t + c if table t's side table shows column c
-    pub shows: [u64; 64],
+    pub shows: [u64; PLACES],
     // the columns that it shows, in rising order, from 8t on
-    pub shown: [usize; 64],
+    pub shown: [usize; PLACES],
     // of each part: how many columns its rows have, how many rows it has room for, where it begins in the store
-    pub columns: [usize; 9],
-    pub rooms: [usize; 9],
+    pub columns: [usize; PARTS],
+    pub rooms: [usize; PARTS],
     // and behind the list the store's end
-    pub starts: [usize; 10],
+    pub starts: [usize; PARTS + 1],
     // the numbers of the edges, in an order from the root outward
-    pub order: [usize; 8],
+    pub order: [usize; TABLES],
     // the place at 8t + c that column c has among those that table t's side table shows
-    pub places: [usize; 64],
+    pub places: [usize; PLACES],
 }
 
 pub struct Checked {
@@ -44,12 +48,12 @@ pub struct Checked {
     pub plan: Plan,
 }
 
-fn kept_marks(sheet: &[u64]) -> [u64; 8]
+fn kept_marks(sheet: &[u64]) -> [u64; TABLES]
     requires { ⌜ GoodSheet (now sheet) ⌝ }
     ensures { λ m. ⌜ m ≡ keptOf (sheetOf (now (sheet .entry))) ⌝ }
 {
     let n = sheet::tables(sheet);
-    let mut m = [0u64; 8];
+    let mut m = [0u64; TABLES];
     let mut t = 0;
     while t < n {
         m[t] = mark_of(derive::is_kept(sheet, t));
@@ -63,19 +67,19 @@ fn shows_at(sheet: &[u64], i: usize) -> u64
     requires { ⌜ GoodSheet (now sheet) ⌝ }
     ensures { λ r. ⌜ r ≡ showsAt (sheetOf (now (sheet .entry))) i ⌝ }
 {
-    if !sheet::has_column(sheet, i / 8, i % 8) {
+    if !sheet::has_column(sheet, i / COLUMNS, i % COLUMNS) {
         return 0;
     }
-    mark_of(derive::is_shown(sheet, i / 8, i % 8))
+    mark_of(derive::is_shown(sheet, i / COLUMNS, i % COLUMNS))
 }
 
-fn shows_marks(sheet: &[u64]) -> [u64; 64]
+fn shows_marks(sheet: &[u64]) -> [u64; PLACES]
     requires { ⌜ GoodSheet (now sheet) ⌝ }
     ensures { λ m. ⌜ m ≡ showsOf (sheetOf (now (sheet .entry))) ⌝ }
 {
-    let mut m = [0u64; 64];
+    let mut m = [0u64; PLACES];
     let mut i = 0;
-    while i < 64 {
+    while i < PLACES {
         m[i] = shows_at(sheet, i);
         i += 1;
     }
@@ -83,7 +87,7 @@ fn shows_marks(sheet: &[u64]) -> [u64; 64]
 }
 
 // How many columns the rows of a part have: none for an unkept table, the listed columns for the list.
-fn columns_in(sheet: &[u64], kept: [u64; 8], shows: [u64; 64], part: usize) -> usize
+fn columns_in(sheet: &[u64], kept: [u64; TABLES], shows: [u64; PLACES], part: usize) -> usize
     requires { ⌜ GoodSheet (now sheet) × ((kept ≡ keptOf (sheetOf (now sheet)))
         × ((shows ≡ showsOf (sheetOf (now sheet))) × (part ≤ tableCount (now sheet)))) ⌝ }
     ensures { λ r. ⌜ r ≡ columns (sheetOf (now (sheet .entry))) part ⌝ }
@@ -94,15 +98,15 @@ fn columns_in(sheet: &[u64], kept: [u64; 8], shows: [u64; 64], part: usize) -> u
     if kept[part] == 0 {
         return 0;
     }
-    marks_before(shows, part, 8)
+    marks_before(shows, part, COLUMNS)
 }
 
-fn columns_of(sheet: &[u64], kept: [u64; 8], shows: [u64; 64]) -> [usize; 9]
+fn columns_of(sheet: &[u64], kept: [u64; TABLES], shows: [u64; PLACES]) -> [usize; PARTS]
     requires { ⌜ GoodSheet (now sheet) × ((kept ≡ keptOf (sheetOf (now sheet))) × (shows ≡ showsOf (sheetOf (now sheet)))) ⌝ }
     ensures { λ r. ⌜ r ≡ columnsOf (sheetOf (now (sheet .entry))) ⌝ }
 {
     let m = sheet::tables(sheet) + 1;
-    let mut r = [0usize; 9];
+    let mut r = [0usize; PARTS];
     let mut part = 0;
     while part < m {
         r[part] = columns_in(sheet, kept, shows, part);
@@ -111,12 +115,12 @@ fn columns_of(sheet: &[u64], kept: [u64; 8], shows: [u64; 64]) -> [usize; 9]
     r
 }
 
-fn rooms_of(sheet: &[u64]) -> [usize; 9]
+fn rooms_of(sheet: &[u64]) -> [usize; PARTS]
     requires { ⌜ Counts (now sheet) ⌝ }
     ensures { λ r. ⌜ r ≡ roomsOf (sheetOf (now (sheet .entry))) ⌝ }
 {
     let m = sheet::tables(sheet) + 1;
-    let mut r = [0usize; 9];
+    let mut r = [0usize; PARTS];
     let mut part = 0;
     while part < m {
         r[part] = sheet::room_no(sheet, part);
@@ -126,7 +130,7 @@ fn rooms_of(sheet: &[u64]) -> [usize; 9]
 }
 
 // How many words a part has room for.
-fn size_of(sheet: &[u64], rooms: [usize; 9], columns: [usize; 9], part: usize) -> usize
+fn size_of(sheet: &[u64], rooms: [usize; PARTS], columns: [usize; PARTS], part: usize) -> usize
     requires { ⌜ GoodSheet (now sheet) × ((rooms ≡ roomsOf (sheetOf (now sheet)))
         × ((columns ≡ columnsOf (sheetOf (now sheet))) × (part ≤ tableCount (now sheet)))) ⌝ }
     ensures { λ r. ⌜ (r ≡ size (sheetOf (now (sheet .entry))) part) × (r ≤ 65536) ⌝ }
@@ -135,13 +139,13 @@ fn size_of(sheet: &[u64], rooms: [usize; 9], columns: [usize; 9], part: usize) -
 }
 
 // Where each part begins: behind the nine counts and the parts before it. Behind the list stands the store's end.
-fn starts_of(sheet: &[u64], rooms: [usize; 9], columns: [usize; 9]) -> [usize; 10]
+fn starts_of(sheet: &[u64], rooms: [usize; PARTS], columns: [usize; PARTS]) -> [usize; PARTS + 1]
     requires { ⌜ GoodSheet (now sheet) × ((rooms ≡ roomsOf (sheetOf (now sheet))) × (columns ≡ columnsOf (sheetOf (now sheet)))) ⌝ }
     ensures { λ r. ⌜ r ≡ startsOf (sheetOf (now (sheet .entry))) ⌝ }
 {
     let m = sheet::tables(sheet) + 1;
-    let mut r = [0usize; 10];
-    let mut at: usize = 9;
+    let mut r = [0usize; PARTS + 1];
+    let mut at: usize = PARTS;
     let mut part = 0;
     while part < m {
         r[part] = at;
@@ -190,14 +194,14 @@ fn empty_plan() -> Plan
         tables: 0,
         root: 0,
         store: 0,
-        kept: [0u64; 8],
-        shows: [0u64; 64],
-        shown: [0usize; 64],
-        columns: [0usize; 9],
-        rooms: [0usize; 9],
-        starts: [0usize; 10],
-        order: [0usize; 8],
-        places: [0usize; 64],
+        kept: [0u64; TABLES],
+        shows: [0u64; PLACES],
+        shown: [0usize; PLACES],
+        columns: [0usize; PARTS],
+        rooms: [0usize; PARTS],
+        starts: [0usize; PARTS + 1],
+        order: [0usize; TABLES],
+        places: [0usize; PLACES],
     }
 }
 

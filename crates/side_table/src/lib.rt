@@ -1,5 +1,6 @@
 // The changed table's own side table: what the tests ask of it, and its row put in, taken out or replaced. An unkept table has none.
 use rows::Found;
+use sheet::COLUMNS;
 use sheet_plan::Plan;
 ghost use mathlib.Core.Path.{_≡_};
 ghost use Prim.Native.Nat.{ℕ, _<_};
@@ -24,14 +25,14 @@ pub fn side_row(sheet: &[u64], plan: Plan, t: usize, r: &[u64], row: &mut [u64])
     let w = row.len();
     let mut j = 0;
     while j < w {
-        let c = plan.shown[8 * t + j];
+        let c = plan.shown[COLUMNS * t + j];
         row[j] = r[c];
         j += 1;
     }
 }
 
 // The same for a kept table, in a row of its own: the shown columns, and zeros behind them.
-fn side_words(sheet: &[u64], plan: Plan, t: usize, r: &[u64]) -> [u64; 8]
+fn side_words(sheet: &[u64], plan: Plan, t: usize, r: &[u64]) -> [u64; COLUMNS]
     requires { ⌜ GoodPlan (sheetOf (now sheet)) plan ⌝ }
     requires { ⌜ t < sheetOf (now sheet) .n ⌝ }
     requires { ⌜ length (now r) ≡ width (sheetOf (now sheet)) t ⌝ }
@@ -39,7 +40,7 @@ fn side_words(sheet: &[u64], plan: Plan, t: usize, r: &[u64]) -> [u64; 8]
     ensures { λ row. ⌜ Begins (sheetOf (now (sheet .entry))) t (now (r .entry)) row ⌝ }
 {
     let w = plan.columns[t];
-    let mut row = [0u64; 8];
+    let mut row = [0u64; COLUMNS];
     side_row(sheet, plan, t, r, &mut row[..w]);
     row
 }

@@ -1,5 +1,6 @@
 // The store of a good sheet: sound or not, its parts shown and written, and what a call that may write it answers.
 use rows::Found;
+use sheet::TABLES;
 use sheet::Verdict;
 use sheet_plan::Plan;
 ghost use mathlib.Core.Path.{_≡_};
@@ -10,6 +11,7 @@ ghost use lib.ListN.{length, set};
 ghost use Rattle.rows.specs.Rows.{rising, putRow, takeRow};
 ghost use Rattle.rows.specs.Ranks.{foundRow, foundKey};
 ghost use Rattle.rows.specs.Marks.{unmarked, Tallied, Marking};
+ghost use Rattle.meaning.specs.Limits.{mostTables};
 ghost use Rattle.store.specs.Tests.{absentZero};
 ghost use Rattle.store.specs.Parts.{countIn, rowsIn, soundIn, Within, Kept, Wrote};
 ghost use Rattle.store.specs.Shows.{HandsBack};
@@ -32,7 +34,7 @@ pub struct Part {
 // Where part `number` lies: a table's, or at n (tables) the list's.
 pub fn part_of(plan: Plan, number: usize) -> Part
     requires { ⌜ number ≤ plan .tables ⌝ }
-    requires { ⌜ plan .tables ≤ 8 ⌝ }
+    requires { ⌜ plan .tables ≤ mostTables ⌝ }
     ensures { λ p. ⌜ p ≡ partOf plan number ⌝ }
 {
     let start = plan.starts[number];
@@ -47,7 +49,7 @@ pub fn part_of(plan: Plan, number: usize) -> Part
         };
     }
     Part {
-        slot: 8,
+        slot: TABLES,
         start: start,
         columns: columns,
         room: room,
@@ -56,11 +58,11 @@ pub fn part_of(plan: Plan, number: usize) -> Part
 
 // Whether the counts of the tables from n to 7, which the sheet does not have, are 0.
 fn absent_zero(store: &[u64], n: usize) -> bool
-    requires { ⌜ 8 ≤ length (now store) ⌝ }
+    requires { ⌜ mostTables ≤ length (now store) ⌝ }
     ensures { λ b. ⌜ b ≡ absentZero n (now (store .entry)) ⌝ }
 {
     let mut t = n;
-    while t < 8 {
+    while t < TABLES {
         if store[t] != 0 {
             return false;
         }

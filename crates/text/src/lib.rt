@@ -2,8 +2,10 @@
 mod printing;
 mod reading;
 
+pub use printing::PAGE;
 use printing::put_plan_of;
 use printing::put_unread;
+use reading::HELD;
 pub use reading::Reader;
 ghost use Prim.Native.Nat.{_≤_};
 ghost use Rattle.text.specs.Outcomes.{replyTo};
@@ -11,7 +13,7 @@ ghost use Rattle.text.specs.Writing.{Wrote};
 
 // The text has ended: writes the plan of the words that it says, or `refused` and the number. A
 // reader that is full has more words than a sheet can have, and is refused for their number.
-pub fn reply(reader: Reader, out: &mut [u8; 1024]) -> usize
+pub fn reply(reader: Reader, out: &mut [u8; PAGE]) -> usize
     ensures { λ r. ⌜ Wrote (now (out .entry)) 0 (replyTo reader) (now (out .exit)) r ⌝ }
     ensures { λ r. ⌜ r ≤ 1024 ⌝ }
 {
@@ -21,7 +23,7 @@ pub fn reply(reader: Reader, out: &mut [u8; 1024]) -> usize
     }
     let words = r.words;
     let many = r.many;
-    if 146 <= many {
+    if HELD <= many {
         return put_plan_of(&words, out);
     }
     put_plan_of(&words[..many], out)

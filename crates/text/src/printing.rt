@@ -6,6 +6,7 @@ ghost use Prim.Native.Nat.{ℕ, _+_, _*_, _≤_, _<_};
 ghost use lib.Dec.{ltb};
 ghost use lib.ListN.{length};
 ghost use Rattle.text.specs.Printing.{decimal, memberText, setText, headText, refusedText, planText};
+ghost use Rattle.meaning.specs.Limits.{mostTables};
 ghost use Rattle.meaning.specs.Plan.{plan};
 ghost use Rattle.sheet_plan.specs.Marks.{markedIn};
 ghost use Rattle.text.specs.Laid.{setsIn, lineIn, linesIn, answerText};
@@ -190,9 +191,12 @@ fn put_lines(
     end
 }
 
+// There is room in a page for the text of every plan.
+pub const PAGE: usize = 1024;
+
 // Writes the text of the plan call's answer: 57 bytes at most, and 115 for each of eight tables.
 fn put_plan(a: PlanAnswer, out: &mut [u8]) -> usize
-    requires { ⌜ a .tables ≤ 8 ⌝ }
+    requires { ⌜ a .tables ≤ mostTables ⌝ }
     requires { ⌜ 1024 ≤ length (now out) ⌝ }
     ensures { λ r. ⌜ Wrote (now (out .entry)) 0 (answerText a) (now (out .exit)) r ⌝ }
     ensures { λ r. ⌜ r ≤ 1024 ⌝ }
@@ -209,7 +213,7 @@ fn put_plan(a: PlanAnswer, out: &mut [u8]) -> usize
 }
 
 // Writes the plan of any words, or `refused` and the number. There is room for every plan.
-pub fn put_plan_of(sheet: &[u64], out: &mut [u8; 1024]) -> usize
+pub fn put_plan_of(sheet: &[u64], out: &mut [u8; PAGE]) -> usize
     ensures { λ r. ⌜ Wrote (now (out .entry)) 0 (planText (plan (now (sheet .entry)))) (now (out .exit)) r ⌝ }
     ensures { λ r. ⌜ r ≤ 1024 ⌝ }
 {
@@ -218,7 +222,7 @@ pub fn put_plan_of(sheet: &[u64], out: &mut [u8; 1024]) -> usize
 }
 
 // Writes the refusal of a text that isn't such numbers.
-pub fn put_unread(out: &mut [u8; 1024]) -> usize
+pub fn put_unread(out: &mut [u8; PAGE]) -> usize
     ensures { λ r. ⌜ Wrote (now (out .entry)) 0 (refusedText 1) (now (out .exit)) r ⌝ }
     ensures { λ r. ⌜ r ≤ 1024 ⌝ }
 {

@@ -1,12 +1,16 @@
 // The text of a sheet, read byte by byte as it comes.
+use sheet::SHEET_WORDS;
 ghost use mathlib.Core.Path.{_≡_};
 ghost use Prim.Native.Nat.{ℕ, _≤_, _<_};
 ghost use Rattle.text.specs.Readers.{fresh, broken, afterBlank, afterDigit, afterByte, afterBytes, finished};
 
+// A word more than any sheet has is kept: a text that says too many is known by its length.
+pub const HELD: usize = SHEET_WORDS + 1;
+
 // What has been read so far: the numbers that have ended, the number in hand if one has begun, and
 // whether the text is no text of numbers.
 pub struct Reader {
-    pub words: [u64; 146],
+    pub words: [u64; HELD],
     pub many: usize,
     pub number: u64,
     pub begun: bool,
@@ -18,7 +22,7 @@ impl Reader {
         ensures { λ r. ⌜ r ≡ fresh ⌝ }
     {
         Self {
-            words: [0u64; 146],
+            words: [0u64; HELD],
             many: 0,
             number: 0,
             begun: false,
@@ -46,7 +50,7 @@ impl Reader {
         let number = self.number;
         self.number = 0;
         self.begun = false;
-        if 146 <= many {
+        if HELD <= many {
             return self;
         }
         self.words[many] = number;
