@@ -49,6 +49,13 @@ pub lower-start : (s : Words) (t f : ℕ) → s ≡ lowered s t f 0
 unfolding lowered
 lower-start s t f = rw add-zero (sym (take-append-drop t s))
 
+-- words that stand where they go
+pub lower-none : (s : Words) (t n : ℕ) → s ≡ lowered s t t n
+unfolding lowered
+lower-none s t n =
+    let tail : drop t s ≡ take n (drop t s) ++ drop (t + n) s = rw (← drop-drop n t s) (sym (take-append-drop n (drop t s))) in
+    sym (take-append-drop t s) ∙ ap (λ (rest : Words). take t s ++ rest) tail
+
 module _ (s x : Words) (t f j : ℕ) (h : t ≤ f) (fits : f + j < length s) (inv : x ≡ lowered s t f j) where
   front : Words
   front = take t s ++ take j (drop f s)
