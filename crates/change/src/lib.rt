@@ -4,7 +4,7 @@ use sheet::Verdict;
 use sheet::WRONG_LENGTH;
 use store::Answer;
 ghost use Rattle.meaning.specs.Change as Meant;
-ghost use Rattle.change_asked.specs.Asked.{changeOf};
+ghost use Rattle.meaning.specs.Base.{changeOf};
 ghost use Rattle.store.specs.Answers.{Says};
 
 // Inserts `new` (kind 1), deletes `old` (2) or updates `old` to `new` (3) in a table of which the store holds the side table and the list.

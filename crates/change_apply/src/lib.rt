@@ -3,8 +3,9 @@ use sheet::BAD_CHANGE;
 use sheet_plan::Plan;
 use store::Answer;
 ghost use mathlib.Core.Path.{_≡_};
+ghost use Rattle.meaning.specs.Base.{changeOf};
 ghost use Rattle.sheet.specs.declared.Verdict.the-variants.{Good};
-ghost use Rattle.change_asked.specs.Asked.{changeOf, askedOf};
+ghost use Rattle.change_asked.specs.Asked.{askedOf};
 ghost use Rattle.change_laws.specs.Ready.{Ready};
 ghost use Rattle.change_apply.specs.Applies.{Applies};
 

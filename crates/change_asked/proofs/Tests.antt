@@ -11,7 +11,7 @@ use Rattle.lists.specs.Lists.{Words, at, any}
 use Rattle.lists.specs.Loops.{every, some}
 use Rattle.rows.specs.Rows.{Row, key}
 use Rattle.meaning.specs.Sheet.{sheetOf, leaves, tableCount, edgeCount, conditionCount}
-use Rattle.meaning.specs.Base.{Change, goodChange, tied, sameTied, tiedStay}
+use Rattle.meaning.specs.Base.{Change, changeOf, goodChange, tied, sameTied, tiedStay}
 use Rattle.laws.proofs.Lists.{any-select}
 use Rattle.sheet.specs.declared.reading.Condition.{Condition}
 use Rattle.sheet.specs.Read.{ReadsCondition}
@@ -21,7 +21,7 @@ use Rattle.sheet.proofs.Numbers.{any-up, all-upTo}
 use Rattle.sheet.specs.declared.Verdict.{Verdict}
 use Rattle.sheet.specs.declared.Verdict.the-variants.{Good, Refused}
 use Rattle.derive.specs.Derived.{leavesBy}
-use Rattle.change_asked.specs.Asked.{conditionOn, tiedNo, staysAt, oneRow, twoRows, changeOf, askedOf}
+use Rattle.change_asked.specs.Asked.{conditionOn, tiedNo, staysAt, oneRow, twoRows, askedOf}
 
 -- a condition read is on column c of table t, or not
 module _ (ws : Words) (t c i : ℕ) {x : Condition} (r : ReadsCondition ws i x) where

@@ -33,10 +33,6 @@ unfoldable pub twoRows : Words → ℕ → Row → Row → ℕ → Verdict
 twoRows ws t r r′ w =
     cond (eqb (length r) w && eqb (length r′) w && eqb (key r) (key r′)) (cond (every (staysAt ws t r r′) (length r)) Good (Refused 6)) (Refused 5)
 
--- a change's words
-abbrev pub changeOf : ℕ → ℕ → Row → Row → Change
-changeOf kind t r r′ = record { kind = kind; table = t; old = r; new = r′ }
-
 -- tests 5 and 6
 unfoldable pub askedOf : Words → Change → Verdict
 askedOf ws c = cond (goodChange (sheetOf ws) c) (cond (tiedStay (sheetOf ws) c) Good (Refused 6)) (Refused 5)

@@ -6,9 +6,10 @@ ghost use lib.Dec.{eqb};
 ghost use lib.ListN.{length};
 ghost use Rattle.lists.specs.Loops.{every, some};
 ghost use Rattle.meaning.specs.Sheet.{conditionCount};
+ghost use Rattle.meaning.specs.Base.{changeOf};
 ghost use Rattle.sheet.specs.Rules.{Counts};
 ghost use Rattle.sheet.specs.Tree.{GoodSheet};
-ghost use Rattle.change_asked.specs.Asked.{conditionOn, tiedNo, staysAt, oneRow, twoRows, changeOf, askedOf};
+ghost use Rattle.change_asked.specs.Asked.{conditionOn, tiedNo, staysAt, oneRow, twoRows, askedOf};
 use sheet::Verdict;
 
 // Whether a condition speaks of column c of table t.

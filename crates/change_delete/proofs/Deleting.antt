@@ -12,7 +12,7 @@ use Rattle.rows.specs.Marks.{unmarked}
 use Rattle.meaning.specs.Sheet.{sheetOf}
 use Rattle.meaning.specs.Store.{rowsAt, modelOf}
 use Rattle.meaning.specs.Change.{qualifies, sideRow, oldRow}
-use Rattle.laws.proofs.Changes.{made}
+use Rattle.meaning.specs.Base.{changeOf}
 use Rattle.effects.specs.Applied.{applied, walkRows}
 use Rattle.effects.proofs.Deletes.{delete-contradicts-side, delete-none, delete-contradicts-list, delete-done}
 use Rattle.sheet_plan.specs.declared.Plan.{Plan}
@@ -38,7 +38,7 @@ module _ {ws store : Words} {plan : Plan} (rd : Ready ws store plan) {t : ℕ} {
     pub deletes-contradicts-side : not b ≡ true → Deletes ws store t r (Refused 8) store
     deletes-contradicts-side h =
         record {
-          says = λ o. says-refused (applied (sheetOf ws) store (made 2 t r o)) 8 store (λ z. omega arith)
+          says = λ o. says-refused (applied (sheetOf ws) store (changeOf 2 t r o)) 8 store (λ z. omega arith)
               (delete-contradicts-side (sheetOf ws) (ready-good rd) store (rd .sound) t (ready-table rd lent) r o (sym eb ∙ not-true b h));
         }
 
@@ -49,7 +49,7 @@ module _ {ws store : Words} {plan : Plan} (rd : Ready ws store plan) {t : ℕ} {
       pub deletes-none : not q ≡ true → Deletes ws store t r (Done 0 0) store
       deletes-none f =
           record {
-            says = λ o. says-nothing (applied (sheetOf ws) store (made 2 t r o)) store
+            says = λ o. says-nothing (applied (sheetOf ws) store (changeOf 2 t r o)) store
                 (delete-none (sheetOf ws) (ready-good rd) store (rd .sound) t (ready-table rd lent) r o old (sym eq ∙ not-true q f));
           }
 
@@ -61,7 +61,7 @@ module _ {ws store : Words} {plan : Plan} (rd : Ready ws store plan) {t : ℕ} {
         pub deletes-contradicts-list : a ≡ Contrary → Deletes ws store t r (Refused 8) store
         deletes-contradicts-list e =
             record {
-              says = λ o. says-refused (applied (sheetOf ws) store (made 2 t r o)) 8 store (λ z. omega arith)
+              says = λ o. says-refused (applied (sheetOf ws) store (changeOf 2 t r o)) 8 store (λ z. omega arith)
                   (delete-contradicts-list (sheetOf ws) (ready-good rd) store (rd .sound) t (ready-table rd lent) r o old fine (subst (WaysTaken ws store t r marks) e m));
             }
 
@@ -76,7 +76,7 @@ module _ {ws store : Words} {plan : Plan} (rd : Ready ws store plan) {t : ℕ} {
               let many = length (walkRows s (modelOf s store) t r) in
               let wrote : Wrote list left store mid = subst (λ (rows : Rows). Wrote list (unmarked marks rows) store mid) (rows-is s (s .n) list lies store) w in
               record {
-                says = λ o. says-all s store t many 0 (takeRows (sideRow s t r) (rowsAt s store t)) left (applied s store (made 2 t r o)) k 0 exit
+                says = λ o. says-all s store t many 0 (takeRows (sideRow s t r) (rowsAt s store t)) left (applied s store (changeOf 2 t r o)) k 0 exit
                     (delete-done s (ready-good rd) store (rd .sound) t (ready-table rd lent) r o old fine marks (so .1)) (so .0) refl
                     (both-words rd list lies left mid wrote t (ready-table rd lent) (takeRows (sideRow s t r)) exit si many 0);
               }

@@ -15,8 +15,8 @@ use Rattle.meaning.specs.Sheet.{room, sheetOf}
 use Rattle.meaning.specs.Plan.{kept}
 use Rattle.meaning.specs.Store.{count, rowsAt, modelOf}
 use Rattle.meaning.specs.Change.{qualifies, sideRow, newKey}
+use Rattle.meaning.specs.Base.{changeOf}
 use Rattle.laws.proofs.Stores.{model-side, rows-count}
-use Rattle.laws.proofs.Changes.{made}
 use Rattle.effects.specs.Applied.{applied, walkRows}
 use Rattle.effects.proofs.Inserts.{insert-contradicts, insert-none, insert-no-room-side, insert-no-room-list, insert-done}
 use Rattle.sheet_plan.specs.declared.Plan.{Plan}
@@ -45,7 +45,7 @@ module _ {ws store : Words} {plan : Plan} (rd : Ready ws store plan) {t : ℕ} {
     pub inserts-contradicts : not b ≡ true → Inserts ws store t r (Refused 8) store
     inserts-contradicts h =
         let there : hasKey (key r) (rowsAt (sheetOf ws) store t) ≡ true = not-false (hasKey (key r) (rowsAt (sheetOf ws) store t)) (sym (key-is b e) ∙ not-true b h) in
-        record { says = λ o. says-refused (applied (sheetOf ws) store (made 1 t o r)) 8 store (λ z. omega arith) (insert-contradicts (sheetOf ws) (ready-good rd) store (rd .sound) t (ready-table rd lent) o r there) }
+        record { says = λ o. says-refused (applied (sheetOf ws) store (changeOf 1 t o r)) 8 store (λ z. omega arith) (insert-contradicts (sheetOf ws) (ready-good rd) store (rd .sound) t (ready-table rd lent) o r there) }
 
     module _ (h : not b ≡ false) where
       new : hasKey (key r) (rowsAt (sheetOf ws) store t) ≡ false
@@ -56,7 +56,7 @@ module _ {ws store : Words} {plan : Plan} (rd : Ready ws store plan) {t : ℕ} {
         pub inserts-none : not q ≡ true → Inserts ws store t r (Done 0 0) store
         inserts-none fails =
             record {
-              says = λ o. says-nothing (applied (sheetOf ws) store (made 1 t o r)) store
+              says = λ o. says-nothing (applied (sheetOf ws) store (changeOf 1 t o r)) store
                   (insert-none (sheetOf ws) (ready-good rd) store (rd .sound) t (ready-table rd lent) o r new (sym eq ∙ not-true q fails));
             }
 
@@ -70,7 +70,7 @@ module _ {ws store : Words} {plan : Plan} (rd : Ready ws store plan) {t : ℕ} {
             inserts-no-room-side full =
                 let f = room-full (sheetOf ws) store t (sym ec ∙ not-true c full) in
                 record {
-                  says = λ o. says-refused (applied (sheetOf ws) store (made 1 t o r)) 9 store (λ z. omega arith)
+                  says = λ o. says-refused (applied (sheetOf ws) store (changeOf 1 t o r)) 9 store (λ z. omega arith)
                       (insert-no-room-side (sheetOf ws) (ready-good rd) store (rd .sound) t (ready-table rd lent) o r new fine (f .0) (f .1));
                 }
 
@@ -81,7 +81,7 @@ module _ {ws store : Words} {plan : Plan} (rd : Ready ws store plan) {t : ℕ} {
                   let more : room (sheetOf ws) (sheetOf ws .n) < length (walkRows (sheetOf ws) (modelOf (sheetOf ws) store) t r) + count (sheetOf ws) store (sheetOf ws .n) =
                   omega (arith, lies .room-is, count-is (sheetOf ws) (sheetOf ws .n) list lies store, many, list-room (sheetOf ws) (ready-good rd) store (rd .sound) list lies) in
                   record {
-                    says = λ o. says-refused (applied (sheetOf ws) store (made 1 t o r)) 9 store (λ z. omega arith)
+                    says = λ o. says-refused (applied (sheetOf ws) store (changeOf 1 t o r)) 9 store (λ z. omega arith)
                         (insert-no-room-list (sheetOf ws) (ready-good rd) store (rd .sound) t (ready-table rd lent) o r new fine more);
                   }
 
@@ -113,7 +113,7 @@ module _ {ws store : Words} {plan : Plan} (rd : Ready ws store plan) {t : ℕ} {
                       let listed = sorted (rowsAt s store (s .n) ++ rows) in
                       let wrote : Wrote list listed store mid = subst (λ (l : Rows). Wrote list (sorted (l ++ rows)) store mid) (rows-is s (s .n) list lies store) w in
                       record {
-                        says = λ o. says-all s store t 0 (length rows) (putRows (sideRow s t r) (rowsAt s store t)) listed (applied s store (made 1 t o r)) 0 k exit
+                        says = λ o. says-all s store t 0 (length rows) (putRows (sideRow s t r) (rowsAt s store t)) listed (applied s store (changeOf 1 t o r)) 0 k exit
                             (insert-done s (ready-good rd) store (rd .sound) t (ready-table rd lent) o r new fine (room-free s store t has-room) left) refl many
                             (both-words rd list lies listed mid wrote t (ready-table rd lent) (putRows (sideRow s t r)) exit si 0 (length rows));
                       }

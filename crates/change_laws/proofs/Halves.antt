@@ -7,7 +7,7 @@ use Rattle.lists.specs.Lists.{Words}
 use Rattle.rows.specs.Rows.{Row, Rows}
 use Rattle.meaning.specs.Sheet.{sheetOf}
 use Rattle.meaning.specs.Store.{partRows, rowsAt, modelOf}
-use Rattle.laws.proofs.Sheets.{Good}
+use Rattle.laws.specs.Sheets.{Good}
 use Rattle.laws.proofs.Stores.{model-many, model-part}
 use Rattle.sheet.proofs.Words.{n-is}
 use Rattle.places.specs.Stands.{Stands, withPart}

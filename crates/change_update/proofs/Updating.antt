@@ -14,10 +14,10 @@ use Rattle.meaning.specs.Sheet.{sheetOf}
 use Rattle.meaning.specs.Plan.{shown}
 use Rattle.meaning.specs.Store.{rowsAt, modelOf}
 use Rattle.meaning.specs.Change.{qualifies, withColumns, sideRow, oldRow}
+use Rattle.meaning.specs.Base.{changeOf}
+use Rattle.laws.specs.Updates.{Tied}
 use Rattle.laws.proofs.Stores.{sound-get, model-side}
-use Rattle.laws.proofs.Changes.{made}
 use Rattle.walks.specs.Marks.{altered, isMarked}
-use Rattle.walks.proofs.Updates.{Tied}
 use Rattle.effects.specs.Applied.{applied, replacedRows}
 use Rattle.effects.proofs.Rows.{side-there}
 use Rattle.effects.proofs.Updates.{update-contradicts-side, update-none, update-contradicts-shown, update-contradicts-list, update-done}
@@ -44,7 +44,7 @@ module _ {ws store : Words} {plan : Plan} (rd : Ready ws store plan) {t : ℕ} {
     pub updates-contradicts-side : not b ≡ true → Updates ws store t r r′ (Refused 8) store
     updates-contradicts-side h =
         record {
-          says = says-refused (applied (sheetOf ws) store (made 3 t r r′)) 8 store (λ z. omega arith)
+          says = says-refused (applied (sheetOf ws) store (changeOf 3 t r r′)) 8 store (λ z. omega arith)
               (update-contradicts-side (sheetOf ws) (ready-good rd) store (rd .sound) t (ready-table rd lent) r r′ (sym eb ∙ not-true b h));
         }
 
@@ -55,7 +55,7 @@ module _ {ws store : Words} {plan : Plan} (rd : Ready ws store plan) {t : ℕ} {
       pub updates-none : not q ≡ true → Updates ws store t r r′ (Done 0 0) store
       updates-none f =
           record {
-            says = says-nothing (applied (sheetOf ws) store (made 3 t r r′)) store
+            says = says-nothing (applied (sheetOf ws) store (changeOf 3 t r r′)) store
                 (update-none (sheetOf ws) (ready-good rd) store (rd .sound) t (ready-table rd lent) r r′ old (sym eq ∙ not-true q f));
           }
 
@@ -68,7 +68,7 @@ module _ {ws store : Words} {plan : Plan} (rd : Ready ws store plan) {t : ℕ} {
         updates-contradicts-list e =
             let s = sheetOf ws in
             record {
-              says = says-refused (applied s store (made 3 t r r′)) 8 store (λ z. omega arith)
+              says = says-refused (applied s store (changeOf 3 t r r′)) 8 store (λ z. omega arith)
                   (⊎-elim (λ x. update-contradicts-shown s (ready-good rd) store (rd .sound) t (ready-table rd lent) r r′ old x)
                   (λ x. update-contradicts-list s (ready-good rd) store (rd .sound) t (ready-table rd lent) r r′ old fine (x .0) (x .1))
                   (subst (ReplacedTaken ws store t r marks) e m fine));
@@ -105,7 +105,7 @@ module _ {ws store : Words} {plan : Plan} (rd : Ready ws store plan) {t : ℕ} {
               record {
                 says =
                     says-all s store t many many (putRows (sideRow s t r′) (takeRows (sideRow s t r) (rowsAt s store t))) new
-                    (applied s store (made 3 t r r′)) k k exit
+                    (applied s store (changeOf 3 t r r′)) k k exit
                     (update-done s (ready-good rd) store (rd .sound) t l r r′ old fine (so .1) ti marks (so .2)) (so .0) (so .0)
                     (both-words rd list lies new mid wrote t l (λ (rows : Rows). putRows (sideRow s t r′) (takeRows (sideRow s t r) rows)) exit si many many);
               }

@@ -10,7 +10,7 @@ use Rattle.rows.specs.Rows.{Row, hasRows}
 use Rattle.meaning.specs.Sheet.{sheetOf}
 use Rattle.meaning.specs.Store.{modelOf, rowsAt}
 use Rattle.meaning.specs.Change.{qualifies, foundShow}
-use Rattle.laws.proofs.Changes.{made}
+use Rattle.meaning.specs.Base.{changeOf}
 use Rattle.effects.specs.Applied.{applied, replacedRows, Marked}
 use Rattle.store.specs.declared.Answer.{Answer}
 use Rattle.store.specs.Answers.{Says}
@@ -31,4 +31,4 @@ ReplacedTaken ws store t r marks Contrary =
 
 -- the whole outcome is the definition's
 pub record Updates (ws store : Words) (t : ℕ) (old new : Row) (a : Answer) (exit : Words) : Type 0 where
-  pub says : Says (applied (sheetOf ws) store (made 3 t old new)) a exit
+  pub says : Says (applied (sheetOf ws) store (changeOf 3 t old new)) a exit

@@ -5,8 +5,8 @@ use mathlib.Core.Path.{_≡_, refl, sym, subst, _∙_}
 use mathlib.Core.List.{List, [], _∷_, map}
 use mathlib.Core.Logic.{_⊎_, inl, inr}
 use lib.Dec.{T}
-use Rattle.lists.specs.Lists.{flat}
-use Rattle.lists.proofs.Truth.{Mem, mem-map, map-mem, mem-select, select-mem, eq→eqb, eqb→≡}
+use Rattle.lists.specs.Lists.{Mem, flat}
+use Rattle.lists.proofs.Truth.{mem-map, map-mem, mem-select, select-mem, eq→eqb, eqb→≡}
 use Rattle.laws.proofs.Lists.{mem-left, mem-right, mem-flat-map}
 use Rattle.meaning.specs.Sheet.{Edge, Sheet, leaves, edgesFrom}
 use Rattle.meaning.specs.Plan.{isPromised, promised, dep, depPlusIn}

@@ -10,9 +10,9 @@ use native.Mathlib.Omega.{arith}
 use lib.Dec.{T, eqb, ltb}
 use lib.ListN.{length}
 use borrow.Author.Tests.{eqb-true, eq-eqb, ne-eqb}
-use Rattle.lists.specs.Lists.{Words, at, all, any, select, member, upTo}
+use Rattle.lists.specs.Lists.{Words, at, Mem, all, any, select, member, upTo}
 use Rattle.lists.specs.Loops.{every, some, first}
-use Rattle.lists.proofs.Truth.{Mem, T→≡, F→≡, same-test, mem-map, mem-upTo, select-mem, member→Mem, Mem→member, eq→eqb, eqb→≡}
+use Rattle.lists.proofs.Truth.{T→≡, F→≡, same-test, mem-map, mem-upTo, select-mem, member→Mem, Mem→member, eq→eqb, eqb→≡}
 use Rattle.laws.proofs.Lists.{any-select}
 use Rattle.meaning.specs.Sheet as Meant
 use Rattle.meaning.specs.Sheet.{Sheet, sheetOf, goesInto, leaves, edgesInto, isRoot, tableCount, edgeCount, listedCount}

@@ -16,7 +16,7 @@ use Rattle.meaning.specs.Sheet.{Sheet, room}
 use Rattle.meaning.specs.Base.{Tables, Change}
 use Rattle.meaning.specs.Store.{storeOf, modelOf, sound, fits}
 use Rattle.meaning.specs.Change.{Effect, noEffect, effect, after, agrees, modelAfter, accepted}
-use Rattle.laws.proofs.Sheets.{Good}
+use Rattle.laws.specs.Sheets.{Good}
 use Rattle.laws.proofs.Stores.{model-many, sound-fits, store-back}
 use Rattle.laws.proofs.Changes.{sideAfter}
 use Rattle.effects.specs.Applied.{applied, done, nothing}
@@ -29,7 +29,8 @@ module _ (s : Sheet) (g : Good s) (ws : Words) (ok : T (sound s ws)) (c : Change
 
   -- the room after the change
   fits-by : (x : Effect) → effect s (modelOf s ws) c ≡ x
-      → fits s (modelAfter s ws c) ≡ leb (length (sideAfter (modelOf s ws) (c .table) x)) (room s (c .table)) && leb (length (listAfter (modelOf s ws) x)) (room s (s .n))
+      → fits s (modelAfter s ws c)
+      ≡ leb (length (sideAfter (modelOf s ws) (c .table) x)) (room s (c .table)) && leb (length (listAfter (modelOf s ws) x)) (room s (s .n))
   unfolding modelAfter
   fits-by x e =
       ap (λ x. fits s (after (modelOf s ws) (c .table) x)) e
@@ -75,7 +76,9 @@ module _ (s : Sheet) (g : Good s) (ws : Words) (ok : T (sound s ws)) (c : Change
   unfolding done putRows takeRows
   applied-nothing agree e =
       applied-done agree noEffect e (side-room s g ws ok (c .table) l) (list-room s g ws ok)
-      ∙ ap (λ (w : Words). nothing w) (ap (λ (sides : Tables). storeOf s (record { sides = sides; list = modelOf s ws .list })) (set-getD (modelOf s ws .sides) (c .table) []) ∙ store-back s g ws ok)
+      ∙ ap (λ (w : Words). nothing w)
+      (ap (λ (sides : Tables). storeOf s (record { sides = sides; list = modelOf s ws .list })) (set-getD (modelOf s ws .sides) (c .table) [])
+      ∙ store-back s g ws ok)
 
 -- the same counts and rows
 pub done-same : (s : Sheet) (ws : Words) (t : ℕ) {taken taken′ added added′ : ℕ} {side side′ list list′ : Rows} → taken ≡ taken′ → added ≡ added′ → side ≡ side′

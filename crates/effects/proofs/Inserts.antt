@@ -19,9 +19,10 @@ use Rattle.meaning.specs.Sheet.{Sheet, room}
 use Rattle.meaning.specs.Plan.{kept, shown}
 use Rattle.meaning.specs.Store.{modelOf, sound, count, rowsAt}
 use Rattle.meaning.specs.Change.{qualifies, rowsThrough, noEffect, sideRow, insertEffect, effect, newKey, agrees}
-use Rattle.laws.proofs.Sheets.{Good}
+use Rattle.meaning.specs.Base.{changeOf}
+use Rattle.laws.specs.Sheets.{Good}
 use Rattle.laws.proofs.Stores.{sound-get, model-side, rows-count}
-use Rattle.laws.proofs.Changes.{made, side-row-none, sideAfter}
+use Rattle.laws.proofs.Changes.{side-row-none, sideAfter}
 use Rattle.walks.proofs.Marks.{puts-sorted}
 use Rattle.effects.specs.Applied.{applied, done, nothing, walkRows}
 use Rattle.effects.proofs.Rooms.{listAfter}
@@ -30,12 +31,12 @@ use Rattle.effects.proofs.Rows.{list-rising, walk-rows, side-row-one}
 
 module _ (s : Sheet) (g : Good s) (ws : Words) (ok : T (sound s ws)) (t : ℕ) (l : t < s .n) (o r : Row) where
   -- 8: the key stands in the kept side table
-  pub insert-contradicts : hasKey (key r) (rowsAt s ws t) ≡ true → applied s ws (made 1 t o r) ≡ refused 8 ws
+  pub insert-contradicts : hasKey (key r) (rowsAt s ws t) ≡ true → applied s ws (changeOf 1 t o r) ≡ refused 8 ws
   unfolding agrees newKey
-  insert-contradicts e = applied-contradicts s g ws ok (made 1 t o r) l (rw (model-side s ws t l, e))
+  insert-contradicts e = applied-contradicts s g ws ok (changeOf 1 t o r) l (rw (model-side s ws t l, e))
 
   module _ (new : hasKey (key r) (rowsAt s ws t) ≡ false) where
-    agree : agrees s (modelOf s ws) (made 1 t o r) ≡ true
+    agree : agrees s (modelOf s ws) (changeOf 1 t o r) ≡ true
     unfolding agrees newKey effect insertEffect hasRows
     agree = rw (model-side s ws t l, new) (go (qualifies s (modelOf s ws) t r))
       where
@@ -44,12 +45,12 @@ module _ (s : Sheet) (g : Good s) (ws : Words) (ok : T (sound s ws)) (t : ℕ) (
         go false = refl
 
     -- a row that isn't qualified changes nothing
-    pub insert-none : qualifies s (modelOf s ws) t r ≡ false → applied s ws (made 1 t o r) ≡ nothing ws
+    pub insert-none : qualifies s (modelOf s ws) t r ≡ false → applied s ws (changeOf 1 t o r) ≡ nothing ws
     unfolding effect
-    insert-none e = applied-nothing s g ws ok (made 1 t o r) l agree (rw e)
+    insert-none e = applied-nothing s g ws ok (changeOf 1 t o r) l agree (rw e)
 
     module _ (q : qualifies s (modelOf s ws) t r ≡ true) where
-      effect-is : effect s (modelOf s ws) (made 1 t o r) ≡ insertEffect s (modelOf s ws) t r
+      effect-is : effect s (modelOf s ws) (changeOf 1 t o r) ≡ insertEffect s (modelOf s ws) t r
       unfolding effect
       effect-is = rw q
 
@@ -76,22 +77,24 @@ module _ (s : Sheet) (g : Good s) (ws : Words) (ok : T (sound s ws)) (t : ℕ) (
           ∙ sym (total-append f (rowsAt s ws (s .n)) (rowsThrough s (modelOf s ws) t r)))
 
       -- 9: the side table is full, or the list has not so much room
-      pub insert-no-room-side : T (kept s t) → room s t ≤ count s ws t → applied s ws (made 1 t o r) ≡ refused 9 ws
+      pub insert-no-room-side : T (kept s t) → room s t ≤ count s ws t → applied s ws (changeOf 1 t o r) ≡ refused 9 ws
       insert-no-room-side k h =
-          applied-no-room s g ws ok (made 1 t o r) l agree (insertEffect s (modelOf s ws) t r) effect-is
+          applied-no-room s g ws ok (changeOf 1 t o r) l agree (insertEffect s (modelOf s ws) t r) effect-is
           (inl (omega (arith, side-many, ap length (side-row-one s t r k))))
 
-      pub insert-no-room-list : room s (s .n) < length (walkRows s (modelOf s ws) t r) + count s ws (s .n) → applied s ws (made 1 t o r) ≡ refused 9 ws
-      insert-no-room-list h = applied-no-room s g ws ok (made 1 t o r) l agree (insertEffect s (modelOf s ws) t r) effect-is (inr (omega (arith, list-many)))
+      pub insert-no-room-list : room s (s .n) < length (walkRows s (modelOf s ws) t r) + count s ws (s .n) → applied s ws (changeOf 1 t o r) ≡ refused 9 ws
+      insert-no-room-list h =
+          applied-no-room s g ws ok (changeOf 1 t o r) l agree (insertEffect s (modelOf s ws) t r) effect-is
+          (inr (omega (arith, list-many)))
 
       -- its shown columns enter the side table, and the list gains a row for each way
       pub insert-done : (T (kept s t) → count s ws t < room s t) → length (walkRows s (modelOf s ws) t r) + count s ws (s .n) ≤ room s (s .n)
-          → applied s ws (made 1 t o r)
+          → applied s ws (changeOf 1 t o r)
           ≡ done s ws t 0 (length (walkRows s (modelOf s ws) t r)) (putRows (sideRow s t r) (rowsAt s ws t))
           (sorted (rowsAt s ws (s .n) ++ walkRows s (modelOf s ws) t r))
       unfolding insertEffect
       insert-done h k =
-          applied-done s g ws ok (made 1 t o r) l agree (insertEffect s (modelOf s ws) t r) effect-is (omega (arith, side-many, room-left))
+          applied-done s g ws ok (changeOf 1 t o r) l agree (insertEffect s (modelOf s ws) t r) effect-is (omega (arith, side-many, room-left))
           (omega (arith, list-many))
           ∙ done-same s ws t refl many side-is list-is
         where

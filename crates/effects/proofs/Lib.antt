@@ -6,6 +6,5 @@ pub mod Inserts
 pub mod Deletes
 pub mod Updates
 pub mod Marking
-pub mod Kept
 pub mod Written
 pub mod Walks

@@ -16,9 +16,9 @@ use Rattle.meaning.specs.Base.{rowsOf}
 use Rattle.meaning.specs.Meaning.{Model}
 use Rattle.meaning.specs.Store.{partRows, modelOf, sound, fits}
 use Rattle.meaning.specs.Change.{Effect, after}
+use Rattle.laws.specs.Sheets.{Good}
 use Rattle.laws.proofs.Lists.{here-or}
 use Rattle.laws.proofs.Models.{part-side, part-list, fits-get, fits-make}
-use Rattle.laws.proofs.Sheets.{Good}
 use Rattle.laws.proofs.Stores.{sound-get, model-side, rows-count}
 use Rattle.laws.proofs.Changes.{sideAfter}
 

@@ -10,7 +10,7 @@ use lib.Dec.{T}
 use lib.ListN.{length}
 use Rattle.lists.specs.Lists.{Words, flat}
 use Rattle.lists.specs.Totals.{total, Same}
-use Rattle.lists.proofs.Truth.{isT, T→≡, F→≡, decided, and-snd, and-both, cond-true}
+use Rattle.lists.proofs.Truth.{isT, T→≡, decided, and-snd, and-both, cond-true}
 use Rattle.rows.specs.Rows.{Row, Rows, pick, rising, hasRow, hasRows}
 use Rattle.meaning.specs.Sheet.{Sheet}
 use Rattle.meaning.specs.Plan.{root, kept, shown}
@@ -18,7 +18,7 @@ use Rattle.meaning.specs.Base.{rowsOf}
 use Rattle.meaning.specs.Meaning.{listRow, Model}
 use Rattle.meaning.specs.Store.{modelOf, sound}
 use Rattle.meaning.specs.Change.{widened, qualifies, canTake, rowsThrough, sideRow, oldRow}
-use Rattle.laws.proofs.Sheets.{Good}
+use Rattle.laws.specs.Sheets.{Good}
 use Rattle.laws.proofs.Trees.{cannot-root, cannot-unkept}
 use Rattle.laws.proofs.Models.{part-side}
 use Rattle.laws.proofs.Stores.{sound-get, model-many, sound-proper}
@@ -36,11 +36,17 @@ module _ (s : Sheet) (g : Good s) (ws : Words) (ok : T (sound s ws)) where
   -- where ways cannot be taken there is no walk: the root is another table, and unkept
   walks-none : (t : ℕ) → t < s .n → (r : Row) → (T (canTake s t) → ⊥) → walkRows s (modelOf s ws) t r ≡ []
   unfolding walkRows allWalks
-  walks-none t l r cannot =
-      let m = modelOf s ws in
-      let none : rowsOf (m .sides) (root s) ≡ [] = sym (part-side m (s .n) (model-many s ws) (root s) (g .root-in)) ∙ sound-proper s g ws ok .unkept (root s) (g .root-in) (cannot-unkept s g t cannot) in
-      let empty : rowsOf (withRow s m t r) (root s) ≡ [] = with-other s g m t l r (root s) (g .root-in) (λ e. cannot-root s g t cannot (sym e)) ∙ ap (map (widened s (root s))) none in
-      ap (λ (rows : Rows). map (listRow s) (flat (map (walkFrom s (withRow s m t r)) rows))) empty
+  walks-none t l r cannot = ap (λ (rows : Rows). map (listRow s) (flat (map (walkFrom s (withRow s (modelOf s ws) t r)) rows))) empty
+    where
+      none : rowsOf (modelOf s ws .sides) (root s) ≡ []
+      none =
+          sym (part-side (modelOf s ws) (s .n) (model-many s ws) (root s) (g .root-in))
+          ∙ sound-proper s g ws ok .unkept (root s) (g .root-in) (cannot-unkept s g t cannot)
+
+      empty : rowsOf (withRow s (modelOf s ws) t r) (root s) ≡ []
+      empty =
+          with-other s g (modelOf s ws) t l r (root s) (g .root-in) (λ e. cannot-root s g t cannot (sym e))
+          ∙ ap (map (widened s (root s))) none
 
   -- the list rows of the ways through a qualified row are those of the walks
   pub walk-rows : (t : ℕ) → t < s .n → (r : Row) → T (qualifies s (modelOf s ws) t r) → Same (rowsThrough s (modelOf s ws) t r) (walkRows s (modelOf s ws) t r)

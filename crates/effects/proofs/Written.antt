@@ -6,7 +6,7 @@ use Rattle.lists.specs.Lists.{Words}
 use Rattle.rows.specs.Rows.{Rows}
 use Rattle.meaning.specs.Sheet.{Sheet}
 use Rattle.meaning.specs.Store.{storeOf, modelOf}
-use Rattle.laws.proofs.Sheets.{Good}
+use Rattle.laws.specs.Sheets.{Good}
 use Rattle.laws.proofs.Stores.{model-many}
 use Rattle.places.specs.Stands.{Stands, withPart}
 use Rattle.places.proofs.Models.{with-side, with-list, with-many}

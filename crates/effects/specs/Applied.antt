@@ -5,10 +5,10 @@ use mathlib.Core.Path.{_≡_}
 use mathlib.Core.Bool.{cond}
 use mathlib.Core.List.{[], map}
 use lib.Dec.{T}
-use lib.ListN.{getD, set}
+use lib.ListN.{length, getD, set}
 use Rattle.lists.specs.Lists.{Words}
 use Rattle.rows.specs.Rows.{Row, Rows, takeRows, hasRows}
-use Rattle.rows.specs.Marks.{unmarked}
+use Rattle.rows.specs.Marks.{unmarked, Tallied}
 use Rattle.meaning.specs.Answers.{Outcome, refused}
 use Rattle.meaning.specs.Sheet.{Sheet}
 use Rattle.meaning.specs.Plan.{root}
@@ -56,3 +56,9 @@ replacedRows s m t r = cond (canTake s t) (walkRows s m t r) (rowsFound s m t r)
 pub record Marked (out rows : Rows) (marks : Words) : Type 0 where
   pub there : T (hasRows out rows)
   pub left : unmarked marks rows ≡ takeRows out rows
+
+-- so far: k rows are marked, one by one, and they are these
+pub record MarkedSo (out rows : Rows) (marks : Words) (k : ℕ) : Type 0 where
+  pub many : k ≡ length out
+  pub is : Marked out rows marks
+  pub tallied : Tallied rows marks

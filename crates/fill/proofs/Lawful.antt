@@ -16,7 +16,7 @@ use Rattle.meaning.specs.Base.{baseOf, goodBase}
 use Rattle.meaning.specs.Meaning.{theList, meaning}
 use Rattle.meaning.specs.Store.{fits}
 use Rattle.meaning.specs.Fill.{fill, filled}
-use Rattle.laws.proofs.Sheets.{Good}
+use Rattle.laws.specs.Sheets.{Good}
 use Rattle.laws.proofs.Meanings.{lawful-get, base-many, meaning-list}
 use Rattle.places.specs.Stands.{Stands}
 use Rattle.places.proofs.Stands.{stands-words}

@@ -11,10 +11,10 @@ use lib.ListN.{length, getD, take, drop, set, length-map, length-append, take-ap
 use lib.Seq.{take-all}
 use Rattle.lists.specs.Lists.{Words, at, select}
 use Rattle.lists.proofs.Truth.{mem-getD}
-use Rattle.rows.specs.Rows.{Row, Rows, pick}
+use Rattle.rows.specs.Rows.{Row, Rows, Wide, pick}
 use Rattle.rows.specs.Words.{written}
 use Rattle.rows.specs.Regions.{laid}
-use Rattle.rows.proofs.Cut.{Wide, wide-cons}
+use Rattle.rows.proofs.Cut.{wide-cons}
 use Rattle.rows.proofs.Moves.{written-step}
 use Rattle.meaning.specs.Sheet.{Sheet, width, sheetOf, tableCount}
 use Rattle.meaning.specs.Plan.{kept, shown}

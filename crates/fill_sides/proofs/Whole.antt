@@ -6,7 +6,7 @@ use Rattle.lists.specs.Lists.{Words}
 use Rattle.lists.specs.Loops.{every}
 use Rattle.meaning.specs.Sheet.{sheetOf, tableCount}
 use Rattle.meaning.specs.Plan.{storeLength}
-use Rattle.laws.proofs.Sheets.{Good}
+use Rattle.laws.specs.Sheets.{Good}
 use Rattle.places.specs.Stands.{Stands}
 use Rattle.sheet.proofs.Words.{n-is}
 use Rattle.filling.specs.Written.{partly, sideFits}

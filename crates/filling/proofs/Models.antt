@@ -21,8 +21,8 @@ use Rattle.meaning.specs.Plan.{kept, columns, size, start, storeLength}
 use Rattle.meaning.specs.Base.{Tables, rowsOf}
 use Rattle.meaning.specs.Meaning.{sideTable, theList, meaning}
 use Rattle.meaning.specs.Store.{partRows, partWords}
+use Rattle.laws.specs.Sheets.{Good}
 use Rattle.laws.proofs.Lists.{here-or, by-set, at-upTo, length-upTo}
-use Rattle.laws.proofs.Sheets.{Good}
 use Rattle.laws.proofs.Models.{by-part}
 use Rattle.laws.proofs.Qualified.{side-unkept}
 use Rattle.places.specs.Stands.{slot, Stands, withPart}

@@ -7,9 +7,9 @@ use mathlib.Core.List.{[]}
 use mathlib.Core.Logic.{⊎-elim}
 use lib.Dec.{T}
 use lib.ListN.{length, getD}
-use Rattle.lists.specs.Lists.{at, all}
+use Rattle.lists.specs.Lists.{at, Mem, all}
 use Rattle.lists.specs.Loops.{every}
-use Rattle.lists.proofs.Truth.{Mem, isT, T→≡, eq→eqb, eqb→≡, same-test, decided, or-inl, or-inr, or-cases, and-fst, and-snd, and-both, not→F, F→not}
+use Rattle.lists.proofs.Truth.{isT, T→≡, eq→eqb, eqb→≡, same-test, decided, or-inl, or-inr, or-cases, and-fst, and-snd, and-both, not→F, F→not}
 use Rattle.lists.proofs.Truth.{all-get, all-make, mem-getD}
 use Rattle.lists.proofs.Loops.{every-at, every-from}
 use Rattle.rows.specs.Rows.{Row}
@@ -17,7 +17,7 @@ use Rattle.rows.proofs.Ranks.{mem-at}
 use Rattle.meaning.specs.Sheet.{Edge, Sheet, width}
 use Rattle.meaning.specs.Plan.{isPromised}
 use Rattle.meaning.specs.Base.{Tables, rowsOf, lawful}
-use Rattle.laws.proofs.Sheets.{Good}
+use Rattle.laws.specs.Sheets.{Good}
 use Rattle.laws.proofs.Meanings.{Met, lawful-get, lawful-make}
 use Rattle.filling.specs.Runs.{rowNo}
 use Rattle.filling.specs.Promises.{onceIn, metAt, keeps}

@@ -9,9 +9,9 @@ use native.Mathlib.Omega.{arith}
 use lib.Dec.{T, ltb, lt→ltb}
 use lib.ListN.{length, getD, take, length-map}
 use lib.Seq.{take-suc, take-all}
-use Rattle.lists.specs.Lists.{at, all, select, upTo}
+use Rattle.lists.specs.Lists.{at, Mem, all, select, upTo}
 use Rattle.lists.specs.Totals.{total, Same}
-use Rattle.lists.proofs.Truth.{Mem, all-get, all-make, mem-select, and-fst, and-snd, and-both}
+use Rattle.lists.proofs.Truth.{all-get, all-make, mem-select, and-fst, and-snd, and-both}
 use Rattle.lists.proofs.Totals.{same-map, same-select, same-length}
 use Rattle.lists.proofs.Places.{map-getD}
 use Rattle.rows.specs.Rows.{Row, Rows, key, pick, rising, sorted, hasKey, noKeyTwice}
@@ -23,8 +23,8 @@ use Rattle.meaning.specs.Sheet.{Sheet}
 use Rattle.meaning.specs.Plan.{kept, shown}
 use Rattle.meaning.specs.Base.{Tables, rowsOf}
 use Rattle.meaning.specs.Meaning.{sideTable}
+use Rattle.laws.specs.Sheets.{Good}
 use Rattle.laws.proofs.Lists.{select-append, map-append}
-use Rattle.laws.proofs.Sheets.{Good}
 use Rattle.laws.proofs.Columns.{key-pick}
 use Rattle.laws.proofs.Keys.{once-first, once-rest, once-same, key-mem}
 use Rattle.laws.proofs.Qualified.{side-kept}

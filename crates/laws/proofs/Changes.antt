@@ -12,31 +12,28 @@ use lib.ListN.{length, length-set, length-map}
 use lib.Seq.{getD-set-other}
 use Rattle.lists.specs.Lists.{Words, at}
 use Rattle.lists.proofs.Truth.{isT, not→F, mem-select, eqb→≡, and-fst, and-snd, or-cases, decided, cond-true, cond-false}
-use Rattle.rows.specs.Rows.{Row, Rows, key, pick, rising, putRow, putRows, takeRow, takeRows, hasRow, hasRows, hasKey, noKeyTwice}
+use Rattle.rows.specs.Rows.{Row, Rows, key, Wide, pick, rising, putRow, putRows, hasRow, takeRow, takeRows, hasRows, hasKey, noKeyTwice}
 use Rattle.rows.proofs.Sorted.{rising-puts, rising-takes}
-use Rattle.rows.proofs.Cut.{Wide, wide-cons}
+use Rattle.rows.proofs.Cut.{wide-cons}
 use Rattle.meaning.specs.Sheet.{Sheet, width}
 use Rattle.meaning.specs.Plan.{kept, shown, columns}
-use Rattle.meaning.specs.Base.{rowsOf, Change, byKind, goodChange, hasWidth}
+use Rattle.meaning.specs.Base.{rowsOf, Change, changeOf, byKind, goodChange, hasWidth}
 use Rattle.meaning.specs.Meaning.{listRow, Model}
 use Rattle.meaning.specs.Store.{partRows, storeOf, modelOf, sound, rowsAt, fits}
-use Rattle.meaning.specs.Change.{qualifies, canTake, waysThrough, rowsThrough, showsKey, keysReached, rowsFound, withColumns, Effect, noEffect, sideRow, insertEffect, deleteEffect, updateEffect, effect, after, newKey, oldRow, foundShow, agrees, modelAfter}
+use Rattle.meaning.specs.Change.{qualifies, canTake, waysThrough, rowsThrough, showsKey, keysReached, rowsFound, withColumns, Effect, noEffect, sideRow}
+use Rattle.meaning.specs.Change.{insertEffect, deleteEffect, updateEffect, effect, after, newKey, oldRow, foundShow, agrees, modelAfter}
+use Rattle.laws.specs.Sheets.{Good}
 use Rattle.laws.proofs.Lists.{by-set, facts}
-use Rattle.laws.proofs.Sheets.{Good}
 use Rattle.laws.proofs.Columns.{columns-side, columns-list, key-pick, list-row-length, with-length}
 use Rattle.laws.proofs.Keys.{once-put, once-take, key-gone, wide-map, wide-get, wide-puts, wide-takes}
 use Rattle.laws.proofs.Models.{part-side, part-list, by-part, Proper, rows-at, model-back, store-sound}
 use Rattle.laws.proofs.Stores.{model-side, sound-proper}
 
--- a change of a known kind
-abbrev pub made : ℕ → ℕ → Row → Row → Change
-made kind t r r′ = record { kind = kind; table = t; old = r; new = r′ }
-
 -- what holds of each kind of change that passes test 5 holds of every such change
 pub by-kind : (s : Sheet) (P : Change → Type 0)
-    → ((t : ℕ) (r r′ : Row) → t < s .n → length r ≡ 0 → length r′ ≡ width s t → P (made 1 t r r′))
-    → ((t : ℕ) (r r′ : Row) → t < s .n → length r ≡ width s t → length r′ ≡ 0 → P (made 2 t r r′))
-    → ((t : ℕ) (r r′ : Row) → t < s .n → length r ≡ width s t → length r′ ≡ width s t → key r ≡ key r′ → P (made 3 t r r′))
+    → ((t : ℕ) (r r′ : Row) → t < s .n → length r ≡ 0 → length r′ ≡ width s t → P (changeOf 1 t r r′))
+    → ((t : ℕ) (r r′ : Row) → t < s .n → length r ≡ width s t → length r′ ≡ 0 → P (changeOf 2 t r r′))
+    → ((t : ℕ) (r r′ : Row) → t < s .n → length r ≡ width s t → length r′ ≡ width s t → key r ≡ key r′ → P (changeOf 3 t r r′))
     → (c : Change) → T (goodChange s c) → P c
 unfolding goodChange
 by-kind s P insert delete update c h = go (eqb (c .kind) 1) refl (eqb (c .kind) 2) refl (eqb (c .kind) 3) refl (and-snd (ltb t (s .n)) (by (c .kind)) h)
@@ -57,8 +54,8 @@ by-kind s P insert delete update c h = go (eqb (c .kind) 1) refl (eqb (c .kind) 
     inside : t < s .n
     inside = ltb→lt t (s .n) (and-fst (ltb t (s .n)) (by (c .kind)) h)
 
-    of-kind : (k : ℕ) → T (eqb (c .kind) k) → P (made k t r r′) → P c
-    of-kind k e p = subst (λ (j : ℕ). P (made j t r r′)) (sym (eqb→≡ (c .kind) k e)) p
+    of-kind : (k : ℕ) → T (eqb (c .kind) k) → P (changeOf k t r r′) → P c
+    of-kind k e p = subst (λ (j : ℕ). P (changeOf j t r r′)) (sym (eqb→≡ (c .kind) k e)) p
 
     go : (a : Bool) → eqb (c .kind) 1 ≡ a → (b : Bool) → eqb (c .kind) 2 ≡ b → (d : Bool) → eqb (c .kind) 3 ≡ d
         → T (cond a (eqb (length r) 0 && hasWidth s t r′)
@@ -224,11 +221,11 @@ module _ (s : Sheet) (g : Good s) (m : Model) (p : Proper s m) where
       by-kind s (λ c. T (agrees s m c) → Proper s (after m (c .table) (effect s m c)))
       (λ t r r′ l e e′ h. by-qualified t l r′ (insertEffect s m t r′) (λ q.
       proper-after s m p t l (insertEffect s m t r′) (side-row-wide s t r′ l) (side-row-none s t r′)
-      (once-in s g m p t l r′ (and-fst (newKey m t r′) (hasRows (effect s m (made 1 t r r′) .listOut) (m .list)) h)) (through-wide s m t r′)))
+      (once-in s g m p t l r′ (and-fst (newKey m t r′) (hasRows (effect s m (changeOf 1 t r r′) .listOut) (m .list)) h)) (through-wide s m t r′)))
       (λ t r r′ l e e′ h. by-qualified t l r (deleteEffect s m t r) (λ q.
       proper-after s m p t l (deleteEffect s m t r) tt (λ k. refl) (once-out s g m p t l r) tt))
       (λ t r r′ l e e′ k h. by-qualified t l r (updateEffect s m t r r′) (λ q.
-      let old = facts (oldRow s m t r ∷ foundShow s m t r ∷ hasRows (effect s m (made 3 t r r′) .listOut) (m .list) ∷ []) h in
+      let old = facts (oldRow s m t r ∷ foundShow s m t r ∷ hasRows (effect s m (changeOf 3 t r r′) .listOut) (m .list) ∷ []) h in
       proper-after s m p t l (updateEffect s m t r r′) (side-row-wide s t r′ l) (side-row-none s t r′) (once-swap s g m p t l r r′ k q (old .0))
       (by-can (canTake s t) (rowsThrough s m t r′) (map (withColumns (s .listed) t r′) (rowsFound s m t r)) (through-wide s m t r′) (found-wide s m p t r r′))))
     where

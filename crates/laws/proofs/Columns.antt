@@ -10,15 +10,16 @@ use native.Mathlib.Omega.{arith}
 use lib.Dec.{T, eqb}
 use lib.ListN.{length, length-map}
 use borrow.Author.Tests.{lt-ltb, le-ltb}
-use Rattle.lists.specs.Lists.{at, any, select, from, upTo, placeOf}
-use Rattle.lists.proofs.Truth.{Mem, isT, T→≡, F→≡, false→F, any-make, mem-select, select-mem, mem-upTo, upTo-mem, map-same, eq→eqb, eqb→≡, and-fst, and-snd, and-both, or-inl, or-inr}
+use Rattle.lists.specs.Lists.{at, Mem, any, select, from, upTo, placeOf}
+use Rattle.lists.proofs.Truth.{isT, T→≡, F→≡, false→F, any-make, mem-select, select-mem, mem-upTo, upTo-mem}
+use Rattle.lists.proofs.Truth.{map-same, eq→eqb, eqb→≡, and-fst, and-snd, and-both, or-inl, or-inr}
 use Rattle.rows.specs.Rows.{Row, key, pick}
 use Rattle.meaning.specs.Sheet.{Edge, Listed, Sheet, width, leaves, edgesFrom}
 use Rattle.meaning.specs.Plan.{names, isListed, isChildColumn, kept, isShown, shown, columns}
 use Rattle.meaning.specs.Meaning.{Way, rowIn, listRow}
 use Rattle.meaning.specs.Change.{widened, keyPlace, withColumns}
+use Rattle.laws.specs.Sheets.{Good}
 use Rattle.laws.proofs.Lists.{at-upTo, length-upTo}
-use Rattle.laws.proofs.Sheets.{Good}
 
 -- how many columns a part's rows have
 pub columns-side : (s : Sheet) (t : ℕ) → t < s .n → T (kept s t) → columns s t ≡ length (shown s t)

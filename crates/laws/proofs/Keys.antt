@@ -9,14 +9,14 @@ use native.Mathlib.Omega.{arith}
 use lib.Dec.{T, eqb, ltb→lt}
 use lib.ListN.{length}
 use borrow.Author.Tests.{ltb-false}
-use Rattle.lists.specs.Lists.{all, any, select}
+use Rattle.lists.specs.Lists.{Mem, all, any, select}
 use Rattle.lists.specs.Totals.{total, one, Same}
-use Rattle.lists.proofs.Truth.{Mem, isT, T→≡, F→≡, F→not, not→F, all-get, all-make, any-get, any-make, any-same, map-mem, mem-select, eq→eqb, eqb→≡, and-fst, and-snd, and-both, or-cases}
+use Rattle.lists.proofs.Truth.{isT, T→≡, F→≡, F→not, not→F, all-get, all-make, any-get, any-make, any-same}
+use Rattle.lists.proofs.Truth.{map-mem, mem-select, eq→eqb, eqb→≡, and-fst, and-snd, and-both, or-cases}
 use Rattle.lists.proofs.Totals.{any-total, any-of, all-of}
-use Rattle.rows.specs.Rows.{Row, Rows, key, sameRow, putRow, putRows, sorted, takeRow, takeRows, hasRow, hasKey, noKeyTwice}
+use Rattle.rows.specs.Rows.{Row, Rows, key, Wide, sameRow, putRow, putRows, sorted, hasRow, takeRow, takeRows, hasKey, noKeyTwice}
 use Rattle.rows.proofs.Ordered.{same→≡}
 use Rattle.rows.proofs.Sorted.{total-put, total-sorted, same-take, same-sorted}
-use Rattle.rows.proofs.Cut.{Wide}
 use Rattle.laws.proofs.Lists.{any-map}
 
 -- rows as members

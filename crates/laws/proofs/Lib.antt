@@ -12,3 +12,4 @@ pub mod Sound
 pub mod Models
 pub mod Stores
 pub mod Changes
+pub mod Updates

@@ -1,5 +1,5 @@
 -- Laws of lists and tests that the other files use: cases on a place, tests taken apart and put together, `Mem` and `any` through maps and
--- selections, the ends of a sum, blocks of a run, and zeros.
+-- selections, the ends of a sum, and blocks of a run.
 -- Assumes nothing.
 use Prim.Native.Nat.{ℕ, zero, suc, _+_, _<_, _≤_}
 use mathlib.Core.Path.{_≡_, refl, sym, ap, ap₂, _∙_, subst}
@@ -9,10 +9,10 @@ use mathlib.Core.Logic.{_⊎_, inl, inr, ⊎-elim}
 use native.Mathlib.Nat.{zero-add, add-zero, add-suc, suc-add, le-of-suc-le-suc, not-suc-le-zero}
 use native.Mathlib.Omega.{arith}
 use lib.Dec.{T, eqb}
-use lib.ListN.{length, getD, take, drop, set, replicate, length-map, length-append}
+use lib.ListN.{length, getD, take, drop, set, length-map, length-append}
 use lib.Seq.{getD-set-same, getD-set-other, drop-drop, take-add}
-use Rattle.lists.specs.Lists.{Words, all, any, select, flat, from, upTo, sum}
-use Rattle.lists.proofs.Truth.{Mem, eq→eqb, eqb→≡, decided, and-fst, and-snd, and-both, mem-append}
+use Rattle.lists.specs.Lists.{Words, Mem, any, select, flat, from, upTo, sum}
+use Rattle.lists.proofs.Truth.{eq→eqb, eqb→≡, decided, and-fst, and-snd, and-both, mem-append}
 use Rattle.lists.proofs.Places.{getD-map-from, length-from}
 
 -- what holds at t, and at u if u is another place, holds at u
@@ -143,8 +143,3 @@ blocks start size h ws (suc n) i =
 pub length-flat-map : (f : ℕ → Words) (g : ℕ → ℕ) → ((k : ℕ) → length (f k) ≡ g k) → (ks : List ℕ) → length (flat (map f ks)) ≡ sum (map g ks)
 length-flat-map f g h [] = refl
 length-flat-map f g h (k ∷ ks) = length-append (f k) (flat (map f ks)) ∙ ap₂ _+_ (h k) (length-flat-map f g h ks)
-
--- a run of zeros
-pub zeros : (k : ℕ) → T (all (eqb 0) (replicate k 0))
-zeros zero = tt
-zeros (suc k) = zeros k

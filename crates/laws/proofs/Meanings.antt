@@ -7,17 +7,17 @@ use native.Mathlib.Omega.{arith}
 use lib.Dec.{T, leb, eqb}
 use lib.ListN.{length, drop, set, length-set}
 use lib.Seq.{ext-getD}
-use Rattle.lists.specs.Lists.{Words, at, all}
+use Rattle.lists.specs.Lists.{Words, at, Mem, all}
 use Rattle.lists.specs.Totals.{Same}
-use Rattle.lists.proofs.Truth.{Mem, all-get, all-make, mem-upTo, upTo-mem, eq→eqb, eqb→≡}
+use Rattle.lists.proofs.Truth.{all-get, all-make, mem-upTo, upTo-mem, eq→eqb, eqb→≡}
 use Rattle.rows.specs.Rows.{Row, Rows, cut, putRows, takeRows, hasKey, noKeyTwice}
 use Rattle.meaning.specs.Sheet.{Edge, Sheet, tables, width}
 use Rattle.meaning.specs.Plan.{promised}
 use Rattle.meaning.specs.Base.{Tables, rowsOf, baseStart, baseOf, isMet, hasParents, hasWidth, lawfulTable, lawful, goodBase}
 use Rattle.meaning.specs.Meaning.{qualified, sideTable, theList, meaning}
 use Rattle.meaning.specs.Change.{qualifies, Effect, after}
+use Rattle.laws.specs.Sheets.{Good}
 use Rattle.laws.proofs.Lists.{by-set, at-upTo, length-upTo, Each, facts, facts-make}
-use Rattle.laws.proofs.Sheets.{Good}
 use Rattle.laws.proofs.Trees.{Promised, promised-is, is-promised, parent-other}
 use Rattle.laws.proofs.Ways.{list-same}
 use Rattle.laws.proofs.Qualified.{qualified-same, qualifiedOf, side-same, side-qualifies}

@@ -14,15 +14,16 @@ use borrow.Author.Tests.{ltb-true, ltb-false}
 use Rattle.lists.specs.Lists.{Words, at, all, flat, from, upTo, sum}
 use Rattle.lists.proofs.Truth.{all-get, all-make, map-same, mem-upTo, upTo-mem, decided}
 use Rattle.lists.proofs.Places.{block, map-getD}
-use Rattle.rows.specs.Rows.{Rows, cut, rising, noKeyTwice}
-use Rattle.rows.proofs.Cut.{Wide, length-flat, cut-flat}
+use Rattle.rows.specs.Rows.{Rows, Wide, cut, rising, noKeyTwice}
+use Rattle.rows.proofs.Cut.{length-flat, cut-flat}
+use Rattle.rows.proofs.Regions.{all-zeros}
 use Rattle.meaning.specs.Sheet.{Sheet, tables, room}
 use Rattle.meaning.specs.Plan.{kept, columns, size, start, storeLength}
 use Rattle.meaning.specs.Base.{rowsOf}
 use Rattle.meaning.specs.Meaning.{Model}
 use Rattle.meaning.specs.Store.{partsOf, partRows, counts, padded, storeOf, count, partWords, rowsAt, modelOf, sound, fits, stretchOf}
-use Rattle.laws.proofs.Lists.{here-or, at-upTo, length-flat-map, zeros}
-use Rattle.laws.proofs.Sheets.{Good}
+use Rattle.laws.specs.Sheets.{Good}
+use Rattle.laws.proofs.Lists.{here-or, at-upTo, length-flat-map}
 use Rattle.laws.proofs.Sound.{sound-make}
 
 -- The parts of a model with n side tables
@@ -168,7 +169,7 @@ module _ (s : Sheet) (g : Good s) (m : Model) (p : Proper s m) (fit : T (fits s 
         absent = λ t l k. count-at t k ∙ ap length (List·getD-eq-default (m .sides) [] (omega (arith, p .many)));
         within = λ part l. subst (λ (k : ℕ). k ≤ room s part) (sym (part-count part l)) (fits-get s m fit part l);
         in-order = λ part l. subst (λ (rows : Rows). T (rising rows)) (sym (rows-at part l)) (p .in-order part l);
-        unused = λ part l. subst (λ (k : Words). T (all (eqb 0) k)) (sym (unused part l)) (zeros (size s part - length (flat (partRows m part))));
+        unused = λ part l. subst (λ (k : Words). T (all (eqb 0) k)) (sym (unused part l)) (all-zeros (size s part - length (flat (partRows m part))));
         unkept = λ t l k. part-count t (omega arith) ∙ ap length (p .unkept t l k);
         once = λ t l. subst (λ (rows : Rows). T (noKeyTwice rows)) (sym (rows-at t (omega arith))) (p .once t l);
       })

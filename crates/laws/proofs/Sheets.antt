@@ -9,53 +9,18 @@ use mathlib.Core.Logic.{_⊎_, inl, inr}
 use native.Mathlib.Omega.{arith}
 use lib.Dec.{T, ltb, leb, eqb, ltb→lt, leb→le}
 use lib.ListN.{length, drop, length-take, length-drop, length-map}
-use Rattle.lists.specs.Lists.{Words, between, all, any, select, noneTwice}
-use Rattle.lists.proofs.Truth.{Mem, all-get, any-get, mem-select, select-mem, mem-getD, mem-upTo, upTo-mem, eq→eqb, eqb→≡, false→F, or-cases, cond-true, cond-false}
+use Rattle.lists.specs.Lists.{Words, between, Mem, all, any, select, noneTwice}
+use Rattle.lists.proofs.Truth.{all-get, any-get, mem-select, select-mem, mem-getD, mem-upTo, upTo-mem, eq→eqb, eqb→≡, false→F, or-cases, cond-true, cond-false}
 use Rattle.rows.specs.Rows.{cut}
 use Rattle.rows.proofs.Cut.{cut-length}
-use Rattle.meaning.specs.Sheet.{Edge, Condition, Listed, Sheet, edgeOf, conditionOf, listedOf, edgesAt, conditionsAt, listedAt, roomsAt, sheetOf, tables, width, room, goodCounts, goodEdge, goodCondition, goodListed, sameListed, goodWords, goesInto, edgesInto, isRoot, reached, goodTree, sheetRefusal, tableCount, edgeCount, conditionCount, listedCount}
+use Rattle.meaning.specs.Sheet.{Edge, Condition, Listed, Sheet, edgeOf, conditionOf, listedOf, edgesAt, conditionsAt, listedAt, roomsAt, sheetOf}
+use Rattle.meaning.specs.Sheet.{tables, width, room, goodCounts, goodEdge, goodCondition, goodListed, sameListed, goodWords, goesInto, edgesInto}
+use Rattle.meaning.specs.Sheet.{isRoot, reached, goodTree, sheetRefusal, tableCount, edgeCount, conditionCount, listedCount}
 use Rattle.meaning.specs.Plan.{root, edgeInto}
 use Rattle.meaning.specs.Demands.{sheetTests}
+use Rattle.laws.specs.Sheets.{Counted, Good}
 use Rattle.laws.proofs.Lists.{Each, facts, single}
 use Rattle.laws.proofs.Numbers.{Passed, first-zero, sheet-first}
-
--- the sheet's counts
-pub record Counted (s : Sheet) : Type 0 where
-  pub some : 1 ≤ s .n
-  pub eight : s .n ≤ 8
-  pub widths-many : length (s .widths) ≡ s .n
-  pub edges-many : length (s .edges) + 1 ≡ s .n
-  pub conditions-many : length (s .conditions) ≤ 16
-  pub listed-some : 1 ≤ length (s .listed)
-  pub listed-many : length (s .listed) ≤ 16
-  pub rooms-many : length (s .rooms) ≡ s .n + 1
-
-pub record Good (s : Sheet) : Type 0 where
-  pub counts : Counted s
-  -- its words
-  pub wide : (t : ℕ) → t < s .n → 1 ≤ width s t
-  pub narrow : (t : ℕ) → t < s .n → width s t ≤ 8
-  pub child-in : (e : Edge) → Mem e (s .edges) → e .child < s .n
-  pub column-in : (e : Edge) → Mem e (s .edges) → e .column < width s (e .child)
-  pub column-some : (e : Edge) → Mem e (s .edges) → 1 ≤ e .column
-  pub parent-in : (e : Edge) → Mem e (s .edges) → e .parent < s .n
-  pub promise-bit : (e : Edge) → Mem e (s .edges) → e .promise ≤ 1
-  pub condition-in : (d : Condition) → Mem d (s .conditions) → d .table < s .n
-  pub condition-column : (d : Condition) → Mem d (s .conditions) → d .column < width s (d .table)
-  pub listed-in : (l : Listed) → Mem l (s .listed) → l .table < s .n
-  pub listed-column : (l : Listed) → Mem l (s .listed) → l .column < width s (l .table)
-  pub listed-once : T (noneTwice sameListed (s .listed))
-  pub room-in : (part : ℕ) → part ≤ s .n → room s part ≤ 4096
-  -- its tree: the root, the one edge into each other table, and how far each table is from the root
-  pub root-in : root s < s .n
-  pub only-root : (t : ℕ) → t < s .n → T (isRoot s t) → t ≡ root s
-  pub edge-in : (t : ℕ) → t < s .n → (t ≡ root s → ⊥) → Mem (edgeInto s t) (s .edges)
-  pub edge-to : (t : ℕ) → t < s .n → (t ≡ root s → ⊥) → edgeInto s t .parent ≡ t
-  pub edge-one : (e : Edge) → Mem e (s .edges) → edgeInto s (e .parent) ≡ e
-  pub depth : ℕ → ℕ
-  pub deeper : (e : Edge) → Mem e (s .edges) → depth (e .parent) ≡ suc (depth (e .child))
-  pub shallow : (t : ℕ) → t < s .n → depth t < s .n
-  pub root-top : depth (root s) ≡ 0
 
 -- the tests of a sheet beyond its counts, one by one
 abbrev wordTests : Sheet → List Bool

@@ -8,8 +8,8 @@ use mathlib.Core.Logic.{⊎-elim}
 use native.Mathlib.Omega.{arith}
 use lib.Dec.{T, leb, eqb, leb→le, le→leb}
 use lib.ListN.{length, drop}
-use Rattle.lists.specs.Lists.{Words, at, all, from}
-use Rattle.lists.proofs.Truth.{Mem, all-get, all-make, mem-from, from-mem, mem-upTo, upTo-mem, eq→eqb, eqb→≡, decided, or-inl, or-inr, or-cases}
+use Rattle.lists.specs.Lists.{Words, at, Mem, all, from}
+use Rattle.lists.proofs.Truth.{all-get, all-make, mem-from, from-mem, mem-upTo, upTo-mem, eq→eqb, eqb→≡, decided, or-inl, or-inr, or-cases}
 use Rattle.rows.specs.Rows.{rising, noKeyTwice}
 use Rattle.meaning.specs.Sheet.{Sheet, tables, room}
 use Rattle.meaning.specs.Plan.{kept, columns, storeLength}

@@ -12,17 +12,17 @@ use lib.Seq.{ext-getD, getD-take, length-take-le, take-all}
 use borrow.Author.Tests.{ltb-false}
 use Rattle.lists.specs.Lists.{Words, at, flat, upTo, sum}
 use Rattle.lists.proofs.Truth.{F→≡, map-same, upTo-mem, decided, cond-true, cond-false}
-use Rattle.rows.specs.Rows.{Rows, pick, rising, sorted, noKeyTwice}
+use Rattle.rows.specs.Rows.{Rows, Wide, pick, rising, sorted, noKeyTwice}
 use Rattle.rows.proofs.Sorted.{rising-none, rising-sorted}
-use Rattle.rows.proofs.Cut.{Wide, cut-length, wide-cut, flat-cut}
+use Rattle.rows.proofs.Cut.{cut-length, wide-cut, flat-cut}
 use Rattle.rows.proofs.Regions.{zeros-are}
 use Rattle.meaning.specs.Sheet.{Sheet, tables, room}
 use Rattle.meaning.specs.Plan.{kept, shown, columns, size, start, storeLength}
 use Rattle.meaning.specs.Base.{Tables, rowsOf}
 use Rattle.meaning.specs.Meaning.{qualified, ways, listRow, theList, Model, meaning}
 use Rattle.meaning.specs.Store.{partsOf, partRows, counts, padded, storeOf, count, partWords, rowsAt, modelOf, sound, fits}
+use Rattle.laws.specs.Sheets.{Good}
 use Rattle.laws.proofs.Lists.{here-or, at-upTo, length-upTo, sum-front, sum-last, blocks}
-use Rattle.laws.proofs.Sheets.{Good}
 use Rattle.laws.proofs.Columns.{columns-side, columns-list, key-pick, list-row-length}
 use Rattle.laws.proofs.Keys.{once-sorted, once-map, once-select, wide-map, wide-sorted}
 use Rattle.laws.proofs.Qualified.{qualifiedOf, qualified-is, side-kept, side-unkept}

@@ -7,13 +7,14 @@ use mathlib.Core.List.{[], _∷_, map}
 use mathlib.Core.Logic.{⊎-elim}
 use native.Mathlib.Omega.{arith}
 use lib.Dec.{T, eqb}
-use Rattle.lists.specs.Lists.{all, flat, member}
-use Rattle.lists.proofs.Truth.{Mem, F→not, not→F, all-get, mem-select, select-mem, map-mem, map-same, member→Mem, Mem→member, mem-upTo, eq→eqb, eqb→≡, and-fst, and-snd, decided, cond-true, cond-false, or-inl, or-inr, or-cases}
+use Rattle.lists.specs.Lists.{Mem, all, flat, member}
+use Rattle.lists.proofs.Truth.{F→not, not→F, all-get, mem-select, select-mem, map-mem, map-same, member→Mem, Mem→member, mem-upTo}
+use Rattle.lists.proofs.Truth.{eq→eqb, eqb→≡, and-fst, and-snd, decided, cond-true, cond-false, or-inl, or-inr, or-cases}
 use Rattle.meaning.specs.Sheet.{Edge, Sheet, tables, leaves, edgesFrom}
 use Rattle.meaning.specs.Plan.{root, edgeInto, others, isPromised, promised, dep, depPlusIn, depPlus, keyListed, needIn, need, kept}
 use Rattle.meaning.specs.Change.{canTake}
+use Rattle.laws.specs.Sheets.{Good}
 use Rattle.laws.proofs.Lists.{here-or, mem-flat-map}
-use Rattle.laws.proofs.Sheets.{Good}
 
 -- an edge that leaves t on a promise
 pub record Promised (s : Sheet) (t : ℕ) (e : Edge) : Type 0 where

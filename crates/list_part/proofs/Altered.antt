@@ -7,9 +7,9 @@ use native.Mathlib.Omega.{arith}
 use lib.ListN.{length, drop, replicate, length-drop}
 use Rattle.lists.specs.Lists.{Words, flat}
 use Rattle.lists.specs.Parts.{splice}
-use Rattle.rows.specs.Rows.{Row, Rows, cut}
+use Rattle.rows.specs.Rows.{Row, Rows, Wide, cut}
 use Rattle.rows.specs.Regions.{laid}
-use Rattle.rows.proofs.Cut.{Wide, wide-cut, length-flat, cut-length}
+use Rattle.rows.proofs.Cut.{wide-cut, length-flat, cut-length}
 use Rattle.rows.proofs.Regions.{zeros-are}
 use Rattle.meaning.specs.Sheet.{listedCount}
 use Rattle.walks.specs.Marks.{altered, isMarked}

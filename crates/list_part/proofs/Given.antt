@@ -11,9 +11,9 @@ use lib.ListN.{length, take, drop, take-append-drop}
 use lib.Seq.{drop-drop, take-at, drop-at, take-all}
 use borrow.Author.Tests.{eq-eqb, ne-eqb}
 use Rattle.lists.specs.Lists.{Words, at, flat}
-use Rattle.rows.specs.Rows.{Row, Rows, cut}
+use Rattle.rows.specs.Rows.{Row, Rows, Wide, cut}
 use Rattle.rows.specs.Words.{row, written}
-use Rattle.rows.proofs.Cut.{Wide, wide-first, wide-rest, wide-cons, wide-cut, length-flat, cut-length, row-length, cut-snoc}
+use Rattle.rows.proofs.Cut.{wide-first, wide-rest, wide-cons, wide-cut, length-flat, cut-length, row-length, cut-snoc}
 use Rattle.lists.proofs.Places.{flat-append}
 use Rattle.meaning.specs.Sheet.{listedCount}
 use Rattle.walks.specs.Marks.{altered, isMarked}

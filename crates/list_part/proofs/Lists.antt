@@ -13,8 +13,8 @@ use Rattle.rows.proofs.Cut.{cut-length}
 use Rattle.meaning.specs.Sheet.{Sheet, sheetOf, listedCount}
 use Rattle.meaning.specs.Meaning.{Way, listRow}
 use Rattle.meaning.specs.Store.{modelOf, sound}
+use Rattle.laws.specs.Sheets.{Good}
 use Rattle.laws.proofs.Columns.{columns-list, list-row-length}
-use Rattle.laws.proofs.Sheets.{Good}
 use Rattle.laws.proofs.Stores.{sound-get}
 use Rattle.sheet.specs.Rules.{Rules}
 use Rattle.places.proofs.Stands.{sound-stands}

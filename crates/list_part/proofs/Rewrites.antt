@@ -12,10 +12,10 @@ use borrow.Rule.Slice.PartMut.{putMid}
 use Rattle.lists.specs.Lists.{Words, all}
 use Rattle.lists.specs.Parts.{part, splice}
 use Rattle.lists.proofs.Parts.{drop-splice}
-use Rattle.rows.specs.Rows.{Row, Rows, cut, rising, sorted}
+use Rattle.rows.specs.Rows.{Row, Rows, Wide, cut, rising, sorted}
 use Rattle.rows.specs.Words.{written}
 use Rattle.rows.specs.Regions.{laid}
-use Rattle.rows.proofs.Cut.{row-fits, Wide, wide-first, wide-rest, wide-cons, cut-length, wide-cut}
+use Rattle.rows.proofs.Cut.{row-fits, wide-first, wide-rest, wide-cons, cut-length, wide-cut}
 use Rattle.rows.proofs.Regions.{region-words, holds}
 use Rattle.rows.proofs.Sorted.{rising-sorted}
 use Rattle.places.proofs.Laid.{laid-long, laid-more, laid-zeros, laid-cut}

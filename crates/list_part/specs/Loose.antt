@@ -7,10 +7,9 @@ use lib.Dec.{T, eqb}
 use lib.ListN.{length, drop}
 use Rattle.lists.specs.Lists.{Words, all}
 use Rattle.lists.specs.Parts.{splice}
-use Rattle.rows.specs.Rows.{Row, Rows, cut}
+use Rattle.rows.specs.Rows.{Row, Rows, Wide, cut}
 use Rattle.rows.specs.Words.{written}
 use Rattle.rows.specs.Regions.{laid}
-use Rattle.rows.proofs.Cut.{Wide}
 use Rattle.store.specs.declared.Part.{Part}
 use Rattle.store.specs.Parts.{sizeOf, stopOf, wordsIn, countIn, Within}
 use Rattle.list_part.specs.Gives.{given}

@@ -10,8 +10,8 @@ use native.Mathlib.Nat.{eq-or-lt-of-le, le-antisymm}
 use native.Mathlib.Omega.{arith}
 use lib.ListN.{length, getD, set, length-set}
 use lib.Seq.{getD-set-same, getD-set-other}
-use Rattle.lists.proofs.Truth.{and-false}
 use Rattle.lists.specs.Loops.{every, some, first, filled}
+use Rattle.lists.proofs.Truth.{and-false}
 
 split : (i n : ℕ) → i < suc n → (i ≡ n) ⊎ (i < n)
 split i n h = eq-or-lt-of-le (omega arith)

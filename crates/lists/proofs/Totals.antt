@@ -10,9 +10,8 @@ use native.Mathlib.Omega.{arith}
 use lib.Dec.{T, ltb}
 use lib.ListN.{length, getD, set}
 use borrow.Author.Tests.{lt-ltb}
-use Rattle.lists.specs.Lists.{all, any, select, flat, choices}
+use Rattle.lists.specs.Lists.{Mem, all, any, select, flat, choices}
 use Rattle.lists.specs.Totals.{total, one, Same}
-use Rattle.lists.proofs.Truth.{Mem}
 
 pub total-cons : {A : Type 0} (f : A → ℕ) (x : A) (xs : List A) → total f (x ∷ xs) ≡ f x + total f xs
 unfolding total

@@ -9,7 +9,7 @@ use native.Mathlib.Nat.{not-suc-le-zero, le-of-suc-le-suc}
 use native.Mathlib.Omega.{arith}
 use lib.Dec.{T, eqb, eqb→eq, eqb-refl}
 use lib.ListN.{length, getD}
-use Rattle.lists.specs.Lists.{all, any, select, sameLists, member, from, upTo}
+use Rattle.lists.specs.Lists.{Mem, all, any, select, sameLists, member, from, upTo}
 
 -- a test that is passed, and one that is not
 pub isT : {b : Bool} → b ≡ true → T b
@@ -84,11 +84,6 @@ cond-false true x y h = absurd (h tt)
 cond-false false x y h = refl
 
 module _ {A : Type 0} where
-  -- x stands in the list
-  abbrev pub Mem : A → List A → Type 0
-  Mem x [] = ⊥
-  Mem x (y ∷ ys) = (x ≡ y) ⊎ Mem x ys
-
   pub all-get : (p : A → Bool) (xs : List A) → T (all p xs) → (x : A) → Mem x xs → T (p x)
   all-get p [] h x m = absurd m
   all-get p (y ∷ xs) h x (inl e) = subst (λ (z : A). T (p z)) (sym e) (and-fst (p y) (all p xs) h)

@@ -1,8 +1,10 @@
 -- Words about lists that all the other definitions are written in. Each goes by cases on its list or its number.
 -- Assumes nothing.
 use Prim.Native.Nat.{ℕ, zero, suc, _+_}
+use mathlib.Core.Path.{_≡_}
 use mathlib.Core.Bool.{Bool, true, false, cond, not, _&&_, _||_}
 use mathlib.Core.List.{List, [], _∷_, _++_, map}
+use mathlib.Core.Logic.{_⊎_}
 use lib.Dec.{leb, eqb}
 use lib.ListN.{getD}
 
@@ -19,6 +21,11 @@ abbrev pub between : ℕ → ℕ → ℕ → Bool
 between lowest highest x = leb lowest x && leb x highest
 
 module _ {A : Type 0} where
+  -- x stands in the list
+  abbrev pub Mem : A → List A → Type 0
+  Mem x [] = ⊥
+  Mem x (y ∷ ys) = (x ≡ y) ⊎ Mem x ys
+
   -- every element passes the test
   abbrev pub all : (A → Bool) → List A → Bool
   all p [] = true

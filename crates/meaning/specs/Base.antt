@@ -60,6 +60,10 @@ pub record Change : Type 0 where
   pub old : Row
   pub new : Row
 
+-- a change by its words
+abbrev pub changeOf : ℕ → ℕ → Row → Row → Change
+changeOf kind t r r′ = record { kind = kind; table = t; old = r; new = r′ }
+
 abbrev pub byKind : {A : Type 0} → ℕ → A → A → A → A → A
 byKind kind insert delete update other = cond (eqb kind 1) insert (cond (eqb kind 2) delete (cond (eqb kind 3) update other))
 

@@ -7,13 +7,17 @@ use Rattle.lists.specs.Totals.{one}
 use Rattle.rows.specs.Rows.{Row, cut, wordOrder, thenBy, rowOrder, isLess, smaller, rising, putRow, putRows, sorted, takeRow, takeRows, hasRows}
 use Rattle.meaning.specs.Answers.{Outcome}
 use Rattle.meaning.specs.Sheet.{sheetOf, goodCounts, goodEdge, goodCondition, goodListed, goodWords, goodTree, sheetRefusal}
-use Rattle.meaning.specs.Plan.{root, edgeInto, others, dep, depPlus, need, kept, isShown, shown, columns, size, start, storeLength, inOrder, tablePlan, goodPlan, plan}
-use Rattle.meaning.specs.Base.{Change, baseStart, baseOf, hasParents, lawfulTable, lawful, goodBase, goodChange, tied, sameTied, tiedStay, hasPromisedChild, lawfulChange}
+use Rattle.meaning.specs.Plan.{root, edgeInto, others, dep, depPlus, need, kept, isShown, shown, columns}
+use Rattle.meaning.specs.Plan.{size, start, storeLength, inOrder, tablePlan, goodPlan, plan}
+use Rattle.meaning.specs.Base.{Change, baseStart, baseOf, hasParents, lawfulTable, lawful, goodBase}
+use Rattle.meaning.specs.Base.{goodChange, tied, sameTied, tiedStay, hasPromisedChild, lawfulChange}
 use Rattle.meaning.specs.Meaning.{meets, qualified, sideTable, joins, holds, ways, listRow, theList, meaning}
 use Rattle.meaning.specs.Store.{counts, storeOf, partWords, rowsAt, modelOf, soundPart, soundTable, sound, fits, showRefusal, stretchOf, show}
-use Rattle.meaning.specs.Change.{widened, wideSides, canTake, waysThrough, rowsThrough, referring, rowsFound, sideRow, insertEffect, deleteEffect, updateEffect, effect, after, newKey, oldRow, foundShow, agrees, modelAfter, changeRefusal, accepted, change}
+use Rattle.meaning.specs.Change.{widened, wideSides, canTake, waysThrough, rowsThrough, referring, rowsFound, sideRow, insertEffect, deleteEffect}
+use Rattle.meaning.specs.Change.{updateEffect, effect, after, newKey, oldRow, foundShow, agrees, modelAfter, changeRefusal, accepted, change}
 use Rattle.meaning.specs.Fill.{fillRefusal, filled, fill}
-use Rattle.meaning.specs.Cases.{Case, Step, Holds, holds-if, step, story, insert, delete, update, desk, zeros, title, copyA, copyB, borrower, loan, cases3to5}
+use Rattle.meaning.specs.Cases.{Case, Step, AsWanted, wanted-if, step, story, insert, delete, update}
+use Rattle.meaning.specs.Cases.{desk, zeros, title, copyA, copyB, borrower, loan, cases3to5}
 
 -- "Restricting a side table by a parent whose edge isn't promised: the parent may come later." Two tables and one edge, not promised: the
 -- child stands in its side table before its parent comes, and is on the list from then on.
@@ -56,6 +60,13 @@ filledAtOnce =
 abbrev pub besides : List Case
 besides = parentLater ∷ parentStays ∷ filledAtOnce ∷ []
 
-pub beside-table : Holds besides
-unfolding cut wordOrder thenBy rowOrder isLess smaller rising putRow putRows sorted takeRow takeRows hasRows sheetOf goodCounts goodEdge goodCondition goodListed goodWords goodTree sheetRefusal root edgeInto others dep depPlus need kept isShown shown columns size start storeLength inOrder tablePlan goodPlan plan baseStart baseOf hasParents lawfulTable lawful goodBase goodChange tied sameTied tiedStay hasPromisedChild lawfulChange meets qualified sideTable joins holds ways listRow theList meaning counts storeOf partWords rowsAt modelOf soundPart soundTable sound fits showRefusal stretchOf show widened wideSides canTake waysThrough rowsThrough referring rowsFound sideRow insertEffect deleteEffect updateEffect effect after newKey oldRow foundShow agrees modelAfter changeRefusal accepted change fillRefusal filled fill
-beside-table = holds-if besides tt
+pub beside-table : AsWanted besides
+unfolding
+    cut wordOrder thenBy rowOrder isLess smaller rising putRow putRows sorted takeRow takeRows hasRows sheetOf goodCounts goodEdge
+    goodCondition goodListed goodWords goodTree sheetRefusal root edgeInto others dep depPlus need kept isShown shown columns size start
+    storeLength inOrder tablePlan goodPlan plan baseStart baseOf hasParents lawfulTable lawful goodBase goodChange tied sameTied tiedStay
+    hasPromisedChild lawfulChange meets qualified sideTable joins holds ways listRow theList meaning counts storeOf partWords rowsAt modelOf
+    soundPart soundTable sound fits showRefusal stretchOf show widened wideSides canTake waysThrough rowsThrough referring rowsFound sideRow
+    insertEffect deleteEffect updateEffect effect after newKey oldRow foundShow agrees modelAfter changeRefusal accepted change fillRefusal
+    filled fill
+beside-table = wanted-if besides tt

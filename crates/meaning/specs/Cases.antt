@@ -11,11 +11,13 @@ use Rattle.lists.proofs.Truth.{sameLists→≡}
 use Rattle.rows.specs.Rows.{Row, Rows, sameRow, cut, wordOrder, thenBy, rowOrder, isLess, smaller, rising, putRow, putRows, takeRow, takeRows, hasRows}
 use Rattle.meaning.specs.Answers.{Outcome}
 use Rattle.meaning.specs.Sheet.{sheetOf, goodCounts, goodEdge, goodCondition, goodListed, goodWords, goodTree, sheetRefusal}
-use Rattle.meaning.specs.Plan.{Plan, TablePlan, root, edgeInto, others, dep, depPlus, need, kept, isShown, shown, columns, size, start, storeLength, inOrder, tablePlan, goodPlan, plan}
-use Rattle.meaning.specs.Base.{Change, goodChange, tied, sameTied, tiedStay}
+use Rattle.meaning.specs.Plan.{Plan, TablePlan, root, edgeInto, others, dep, depPlus, need, kept, isShown, shown}
+use Rattle.meaning.specs.Plan.{columns, size, start, storeLength, inOrder, tablePlan, goodPlan, plan}
+use Rattle.meaning.specs.Base.{Change, changeOf, goodChange, tied, sameTied, tiedStay}
 use Rattle.meaning.specs.Meaning.{meets, qualified, joins, listRow}
 use Rattle.meaning.specs.Store.{counts, storeOf, partWords, rowsAt, modelOf, soundPart, soundTable, sound, fits, showRefusal, stretchOf, show}
-use Rattle.meaning.specs.Change.{widened, wideSides, canTake, waysThrough, rowsThrough, referring, rowsFound, sideRow, insertEffect, deleteEffect, updateEffect, effect, after, newKey, oldRow, foundShow, agrees, modelAfter, changeRefusal, accepted, change}
+use Rattle.meaning.specs.Change.{widened, wideSides, canTake, waysThrough, rowsThrough, referring, rowsFound, sideRow, insertEffect, deleteEffect}
+use Rattle.meaning.specs.Change.{updateEffect, effect, after, newKey, oldRow, foundShow, agrees, modelAfter, changeRefusal, accepted, change}
 
 -- The desk sheet, with its listed columns and the list's room left open
 abbrev pub deskWith : ℕ → Words → ℕ → Words
@@ -42,13 +44,13 @@ abbrev pub single : Words
 single = 1 ∷ 0 ∷ 0 ∷ 1 ∷ 2 ∷ 0 ∷ 1 ∷ 8 ∷ 8 ∷ []
 
 abbrev pub insert : ℕ → Row → Change
-insert t r = record { kind = 1; table = t; old = []; new = r }
+insert t r = changeOf 1 t [] r
 
 abbrev pub delete : ℕ → Row → Change
-delete t r = record { kind = 2; table = t; old = r; new = [] }
+delete t r = changeOf 2 t r []
 
 abbrev pub update : ℕ → Row → Row → Change
-update t r r′ = record { kind = 3; table = t; old = r; new = r′ }
+update t r r′ = changeOf 3 t r r′
 
 -- A line of the table: what the definitions give, and what the document says
 pub record Case : Type 0 where
@@ -189,18 +191,23 @@ case12 =
 abbrev pub cases : List Case
 cases = case1 ∷ case2 ∷ story desk (cases3to5 ++ cases6to9) ∷ story deskTight (cases3to5 ++ case11) ∷ story single case12 ∷ []
 
--- A table holds if each line's two sides are equal. antt computes a test of that, and the test's law turns it into the equation: by
+-- A table is as wanted if each line's two sides are equal. antt computes a test of that, and the test's law turns it into the equation: by
 -- `refl` alone the two sides are compared call by call, and each change is computed over and over.
-abbrev pub Holds : List Case → Type 0
-Holds lines = map (λ c. c .got) lines ≡ map (λ c. c .want) lines
+abbrev pub AsWanted : List Case → Type 0
+AsWanted lines = map (λ c. c .got) lines ≡ map (λ c. c .want) lines
 
 abbrev pub passes : List Case → Bool
 passes lines = sameLists (sameLists sameRow) (map (λ c. c .got) lines) (map (λ c. c .want) lines)
 
-pub holds-if : (lines : List Case) → T (passes lines) → Holds lines
-holds-if lines h = sameLists→≡ (sameLists sameRow) (sameLists→≡ sameRow (sameLists→≡ eqb eqb→eq)) (map (λ c. c .got) lines) (map (λ c. c .want) lines) h
+pub wanted-if : (lines : List Case) → T (passes lines) → AsWanted lines
+wanted-if lines h = sameLists→≡ (sameLists sameRow) (sameLists→≡ sameRow (sameLists→≡ eqb eqb→eq)) (map (λ c. c .got) lines) (map (λ c. c .want) lines) h
 
 -- THE TABLE
-pub table : Holds cases
-unfolding cut wordOrder thenBy rowOrder isLess smaller rising putRow putRows takeRow takeRows hasRows sheetOf goodCounts goodEdge goodCondition goodListed goodWords goodTree sheetRefusal root edgeInto others dep depPlus need kept isShown shown columns size start storeLength inOrder tablePlan goodPlan plan goodChange tied sameTied tiedStay meets qualified joins listRow counts storeOf partWords rowsAt modelOf soundPart soundTable sound fits showRefusal stretchOf show widened wideSides canTake waysThrough rowsThrough referring rowsFound sideRow insertEffect deleteEffect updateEffect effect after newKey oldRow foundShow agrees modelAfter changeRefusal accepted change
-table = holds-if cases tt
+pub table : AsWanted cases
+unfolding
+    cut wordOrder thenBy rowOrder isLess smaller rising putRow putRows takeRow takeRows hasRows sheetOf goodCounts goodEdge goodCondition
+    goodListed goodWords goodTree sheetRefusal root edgeInto others dep depPlus need kept isShown shown columns size start storeLength
+    inOrder tablePlan goodPlan plan goodChange tied sameTied tiedStay meets qualified joins listRow counts storeOf partWords rowsAt modelOf
+    soundPart soundTable sound fits showRefusal stretchOf show widened wideSides canTake waysThrough rowsThrough referring rowsFound sideRow
+    insertEffect deleteEffect updateEffect effect after newKey oldRow foundShow agrees modelAfter changeRefusal accepted change
+table = wanted-if cases tt

@@ -9,7 +9,7 @@ ghost use mathlib.Core.List.{_++_};
 ghost use lib.ListN.{length};
 ghost use Rattle.meaning.specs.Change.{change};
 ghost use Rattle.meaning.specs.Fill.{fill};
-ghost use Rattle.change_asked.specs.Asked.{changeOf};
+ghost use Rattle.meaning.specs.Base.{changeOf};
 ghost use Rattle.text.specs.Writing.{Wrote};
 ghost use Rattle.oratjolet.specs.Exports.{planWords, Planned, Shown, Told, Left};
 

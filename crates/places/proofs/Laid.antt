@@ -9,10 +9,10 @@ use lib.ListN.{length, take, drop, replicate, length-append, length-replicate}
 use lib.Seq.{take-at, drop-at, drop-drop, take-all}
 use Rattle.lists.specs.Lists.{Words, all, flat}
 use Rattle.lists.proofs.Places.{append-assoc}
-use Rattle.rows.specs.Rows.{Row, Rows, cut, rising}
+use Rattle.rows.specs.Rows.{Row, Rows, Wide, cut, rising}
 use Rattle.rows.specs.Words.{written}
 use Rattle.rows.specs.Regions.{laid, Holds}
-use Rattle.rows.proofs.Cut.{Wide, length-flat, cut-flat}
+use Rattle.rows.proofs.Cut.{length-flat, cut-flat}
 use Rattle.rows.proofs.Regions.{holds, all-zeros}
 
 pub laid-none : (size : ℕ) → replicate size 0 ≡ laid size []

@@ -18,17 +18,13 @@ use Rattle.lists.proofs.Parts.{length-part, part-after}
 use Rattle.meaning.specs.Sheet.{Sheet}
 use Rattle.meaning.specs.Plan.{size, start, storeLength}
 use Rattle.meaning.specs.Store.{partsOf, count, partWords}
+use Rattle.laws.specs.Sheets.{Good}
 use Rattle.laws.proofs.Lists.{here-or, blocks}
-use Rattle.laws.proofs.Sheets.{Good}
 use Rattle.laws.proofs.Stores.{start-next, part-inside}
 use Rattle.places.specs.Stands.{slot, stop}
 use Rattle.places.proofs.Splices.{length-splice, part-splice, at-splice, part-before}
 
--- One behind the other: the first begins behind the nine counts, each ends where the next begins, and the last ends with the store
-pub start-first : (s : Sheet) → start s 0 ≡ 9
-unfolding start
-start-first s = refl
-
+-- One behind the other: each ends where the next begins or before, and the last ends with the store
 pub stop-inside : (s : Sheet) (part : ℕ) → part ≤ s .n → stop s part ≤ storeLength s
 stop-inside s part l = part-inside s part l
 

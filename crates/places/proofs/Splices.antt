@@ -1,11 +1,11 @@
--- Laws of a spliced list that `lists` does not have: the words of the part itself, of what stands before it, and one word set beside it.
+-- Laws of a spliced list that `lists` does not have: the words of the part itself, and of what stands before it.
 -- Assumes nothing.
 use Prim.Native.Nat.{ℕ, zero, suc, _-_, _<_, _≤_}
 use mathlib.Core.Path.{_≡_, sym, ap, _∙_}
 use mathlib.Core.List.{List, [], _∷_, _++_}
 use native.Mathlib.Omega.{arith}
-use lib.ListN.{length, getD, take, drop, set, length-append, length-take, length-drop, List·getD-append}
-use lib.Seq.{length-take-le, take-nil, take-at, drop-at, take-append-le, getD-take, take-take, take-set-lt, drop-set-lt, set-append-left}
+use lib.ListN.{length, getD, take, drop, length-append, length-take, length-drop, List·getD-append}
+use lib.Seq.{length-take-le, take-nil, take-at, drop-at, take-append-le, getD-take, take-take}
 use Rattle.lists.specs.Parts.{part, splice}
 
 take-drop : (f g : ℕ) (ws : List ℕ) → take (g - f) (drop f ws) ≡ drop f (take g ws)
@@ -44,11 +44,3 @@ module _ (s : List ℕ) (a b : ℕ) (p : List ℕ) (h : a ≤ b) (l : b ≤ leng
   pub part-before : (f g : ℕ) → g ≤ a → part (splice s a b p) f g ≡ part s f g
   unfolding part
   part-before f g k = take-drop f g (splice s a b p) ∙ ap (drop f) (take-splice g k) ∙ sym (take-drop f g s)
-
-  -- a word set before the part
-  pub set-splice : (i v : ℕ) → i < a → set (splice s a b p) i v ≡ splice (set s i v) a b p
-  unfolding splice
-  set-splice i v j =
-      let f : length (take a s) ≡ a = length-take-le a s (omega arith) in
-      let k : i < length (take a s) = omega arith in
-      rw (set-append-left (take a s) (p ++ drop b s) i v k, take-set-lt a s i v j, drop-set-lt b s i v (omega arith))

@@ -21,8 +21,8 @@ use Rattle.meaning.specs.Plan.{columns, size, start, storeLength}
 use Rattle.meaning.specs.Base.{rowsOf}
 use Rattle.meaning.specs.Meaning.{Model}
 use Rattle.meaning.specs.Store.{partsOf, partRows, counts, padded, storeOf, count, partWords, rowsAt, modelOf, sound}
+use Rattle.laws.specs.Sheets.{Good}
 use Rattle.laws.proofs.Lists.{here-or, at-upTo}
-use Rattle.laws.proofs.Sheets.{Good}
 use Rattle.laws.proofs.Models.{part-side, part-list}
 use Rattle.laws.proofs.Stores.{sound-get, model-many, model-part, count-fits, part-long}
 use Rattle.places.specs.Stands.{slot, stop, Stands, withPart}
@@ -97,10 +97,15 @@ module _ (s : Sheet) (g : Good s) (ws : Words) (m : Model) (st : Stands s ws m) 
   unfolding storeOf laid
   stands-words =
       sym (pieces s ws (st .long))
-      ∙ ap₂ _++_ counts-are (ap flat (map-same (partWords s ws) (λ part. padded (size s part) (flat (partRows m part))) (partsOf s) (λ part i. part-is part (omega (arith, upTo-mem (s .n + 1) part i)))))
+      ∙ ap₂ _++_ counts-are (ap flat parts-are)
     where
       part-is : (part : ℕ) → part ≤ s .n → partWords s ws part ≡ padded (size s part) (flat (partRows m part))
       part-is part l = st .holds part l .words ∙ ap (λ (k : ℕ). laid k (partRows m part)) (words-length s ws (st .long) part l)
+
+      parts-are : map (partWords s ws) (partsOf s) ≡ map (λ part. padded (size s part) (flat (partRows m part))) (partsOf s)
+      parts-are =
+          map-same (partWords s ws) (λ part. padded (size s part) (flat (partRows m part))) (partsOf s)
+          (λ part i. part-is part (omega (arith, upTo-mem (s .n + 1) part i)))
 
 held-as : (w : ℕ) {n n′ : ℕ} {rows rows′ : Rows} {x x′ : Words} → n′ ≡ n → rows′ ≡ rows → x′ ≡ x → Holds w n rows x → Holds w n′ rows′ x′
 held-as w e f q h = rw (e, f, q) h

@@ -11,15 +11,16 @@ use lib.Dec.{eqb, ltb}
 use lib.ListN.{length, getD, replicate, length-map, getD-replicate, List·getD-eq-default}
 use lib.Seq.{getD-set-other}
 use borrow.Author.Tests.{lt-ltb, le-ltb, ltb-true, ltb-false, eqb-false, ne-eqb}
-use Rattle.lists.specs.Lists.{Words, member, upTo}
+use Rattle.lists.specs.Lists.{Words, Mem, member, upTo}
 use Rattle.lists.specs.Totals.{one}
 use Rattle.lists.specs.Loops.{filled}
-use Rattle.lists.proofs.Truth.{Mem, isT, F→≡, same-test, mem-select, upTo-mem, member→Mem, and-snd, and-both}
+use Rattle.lists.proofs.Truth.{isT, F→≡, same-test, mem-select, upTo-mem, member→Mem, and-snd, and-both}
 use Rattle.lists.proofs.Loops.{getD-filled}
 use Rattle.lists.proofs.Places.{length-from, getD-map-from}
 use Rattle.meaning.specs.Sheet.{Sheet, sheetOf, sheetRefusal, width, room, hasColumn}
 use Rattle.meaning.specs.Plan.{TablePlan, root, edgeInto, others, dep, need, needIn, keyListed, kept, isShown, shown, start, tablePlan, goodPlan, inOrder, plan}
-use Rattle.laws.proofs.Sheets as Sheets
+use Rattle.laws.specs.Sheets as Sheets
+use Rattle.laws.proofs.Sheets as SheetLaws
 use Rattle.laws.proofs.Trees.{child-of}
 use Rattle.derive.proofs.Paths.{dep-edge}
 use Rattle.sheet.proofs.Numbers.{member-chosen}
@@ -172,7 +173,7 @@ pub answer-good : (ws : Words) → sheetRefusal ws ≡ 0 → answerFor (checkedO
 unfolding plan
 answer-good ws h =
     ap (λ (p : Plan). answerFor p (depOf (sheetOf ws)) (needOf (sheetOf ws))) (good-plan ws h)
-    ∙ plan-laid (sheetOf ws) (plan-facts ws (good-sheet ws h)) (Sheets.good-sheet ws h) (has-column ws (good-rules ws h)) ∙ sym (rw h)
+    ∙ plan-laid (sheetOf ws) (plan-facts ws (good-sheet ws h)) (SheetLaws.good-sheet ws h) (has-column ws (good-rules ws h)) ∙ sym (rw h)
 
 pub answer-refused : (ws : Words) (k : ℕ) → sheetRefusal ws ≡ k → (k ≡ 0 → ⊥) → refusedAnswer k ≡ laid (plan ws)
 unfolding plan laid numbersOf setsOf filled

@@ -5,12 +5,12 @@ use mathlib.Core.Path.{_≡_, refl, sym, ap, ap₂, _∙_}
 use mathlib.Core.List.{[], _∷_, _++_, append-assoc}
 use native.Mathlib.Nat.{not-suc-le-zero, le-of-suc-le-suc, zero-add, suc-add, zero-mul, suc-mul, mul-le-mul-right}
 use native.Mathlib.Omega.{arith}
-use lib.Dec.{T, eqb, eqb→eq}
+use lib.Dec.{eqb, eqb→eq}
 use lib.ListN.{length, getD, take, drop, length-append, length-take, length-drop, take-append-drop}
 use lib.Seq.{take-at, drop-at, take-append-le, drop-append-le, drop-drop, take-add, length-take-le, getD-take, getD-drop}
-use Rattle.lists.specs.Lists.{Words, at, all, flat}
+use Rattle.lists.specs.Lists.{Words, at, flat}
 use Rattle.lists.proofs.Truth.{eq→eqb, all-cons, all-first, all-rest}
-use Rattle.rows.specs.Rows.{Row, Rows, cut}
+use Rattle.rows.specs.Rows.{Row, Rows, Wide, cut}
 use Rattle.rows.specs.Words.{row}
 
 -- row i of n lies within the words
@@ -82,10 +82,7 @@ cut-take w k ws m ys e h =
     let l : k * w ≤ length (take m ws) = simp length-take (omega arith) in
     cut-front w k (take m ws) ys l ∙ sym (cut-front w k (take m ws) (drop m ws) l) ∙ ap (cut w k) (take-append-drop m ws)
 
--- every row has w columns
-abbrev pub Wide : ℕ → Rows → Type 0
-Wide w rows = T (all (λ r. eqb (length r) w) rows)
-
+-- rows that have w columns each
 pub wide-first : (w : ℕ) (r : Row) (rows : Rows) → Wide w (r ∷ rows) → length r ≡ w
 wide-first w r rows h = eqb→eq (length r) w (all-first (λ r. eqb (length r) w) r rows h)
 

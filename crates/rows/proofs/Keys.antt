@@ -9,10 +9,10 @@ use native.Mathlib.Omega.{arith}
 use lib.Dec.{T, ltb, eqb, ltb→lt, lt→ltb}
 use lib.ListN.{length, getD, set}
 use lib.Seq.{map-set-same}
-use Rattle.lists.specs.Lists.{all, any, select, rises}
+use Rattle.lists.specs.Lists.{Mem, all, any, select, rises}
 use Rattle.lists.proofs.Totals.{total-cons, total-set}
 use Rattle.lists.proofs.Rises.{rises-at}
-use Rattle.lists.proofs.Truth.{Mem, F→not, not→F, same-test, and-fst, and-snd, and-both, all-get, all-make, any-get, any-make, mem-map, map-mem, mem-getD}
+use Rattle.lists.proofs.Truth.{F→not, not→F, same-test, and-fst, and-snd, and-both, all-get, all-make, any-get, any-make, mem-map, map-mem, mem-getD}
 use Rattle.lists.proofs.Truth.{eq→eqb, eqb→≡}
 use Rattle.rows.specs.Rows.{Row, Rows, key, rowOrder, thenBy, isLess, smaller, notAfter, rising, putRow, takeRow, hasKey, noKeyTwice}
 use Rattle.rows.specs.Ranks.{rankKey}

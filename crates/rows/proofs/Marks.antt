@@ -18,14 +18,14 @@ use Rattle.lists.proofs.Places.{flat-append}
 use Rattle.lists.proofs.Truth.{T→≡, F→≡, false→F, all-cons, all-first, all-rest, or-cases, or-inl, or-inr, decided}
 use Rattle.rows.specs.declared.Order.{Order}
 use Rattle.rows.specs.declared.Order.the-variants.{Less, Equal, Greater}
-use Rattle.rows.specs.Rows.{Row, Rows, cut, rowOrder, sameRow, notAfter, rising, hasRow, takeRow}
+use Rattle.rows.specs.Rows.{Row, Rows, Wide, cut, rowOrder, sameRow, notAfter, rising, hasRow, takeRow}
 use Rattle.rows.specs.Ranks.{rank, times}
 use Rattle.rows.specs.Words.{row, lowered, written}
 use Rattle.rows.specs.Regions.{Region, Holds}
 use Rattle.rows.specs.Marks.{unmarked, Tally, Tallied, Marking}
 use Rattle.rows.proofs.Ordered.{same-refl, same→≡, ≡→same, order-equal, order-less-differs, order-greater-differs}
 use Rattle.rows.proofs.Sorted.{rising-first, rising-rest, rising-cons}
-use Rattle.rows.proofs.Cut.{cut-length, cut-at, cut-snoc, cut-flat, Wide, wide-cut, length-flat}
+use Rattle.rows.proofs.Cut.{cut-length, cut-at, cut-snoc, cut-flat, wide-cut, length-flat}
 use Rattle.rows.proofs.Ranks.{equal-at, equal-place, rankAfter-le}
 use Rattle.rows.proofs.Regions.{holds, all-append, all-zeros, take-none}
 

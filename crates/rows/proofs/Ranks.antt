@@ -9,9 +9,9 @@ use native.Mathlib.Omega.{arith}
 use lib.Dec.{T, ltb, eqb}
 use lib.ListN.{length, getD}
 use borrow.Author.Tests.{ltb-true, ltb-false, le-ltb}
-use Rattle.lists.specs.Lists.{Words, at, any}
+use Rattle.lists.specs.Lists.{Words, at, Mem, any}
 use Rattle.lists.specs.Totals.{total, one}
-use Rattle.lists.proofs.Truth.{Mem, isT, T→≡, F→≡, false→F, any-get, any-make, mem-getD, eq→eqb, eqb→≡}
+use Rattle.lists.proofs.Truth.{isT, T→≡, F→≡, false→F, any-get, any-make, mem-getD, eq→eqb, eqb→≡}
 use Rattle.lists.proofs.Totals.{total-sum, total-same, any-total}
 use Rattle.lists.proofs.Search.{Falls, many-le}
 use Rattle.rows.specs.declared.Order.{Order}

@@ -3,8 +3,8 @@
 use Prim.Native.Nat.{ℕ, zero, suc}
 use mathlib.Core.Bool.{Bool, true, false, cond, not, _&&_}
 use mathlib.Core.List.{List, [], _∷_, map}
-use lib.Dec.{ltb, eqb}
-use lib.ListN.{take, drop}
+use lib.Dec.{T, ltb, eqb}
+use lib.ListN.{length, take, drop}
 use Rattle.lists.specs.Lists.{Words, at, all, any, noneTwice, sameLists}
 use Rattle.rows.specs.declared.Order.{Order}
 use Rattle.rows.specs.declared.Order.the-variants.{Less, Equal, Greater}
@@ -18,6 +18,10 @@ Rows = List Row
 
 abbrev pub key : Row → ℕ
 key r = at r 0
+
+-- every row has w columns
+abbrev pub Wide : ℕ → Rows → Type 0
+Wide w rows = T (all (λ r. eqb (length r) w) rows)
 
 -- the columns of a row that a list of column numbers names
 abbrev pub pick : List ℕ → Row → Row

@@ -11,9 +11,8 @@ use denote.Triple.Clauses.{Ended, AtExit}
 use borrow.Fn.World.{ArgsD, ResD}
 use Rattle.lists.specs.Lists.{Words}
 use Rattle.meaning.specs.Answers.{Outcome}
-use Rattle.meaning.specs.Base.{Change}
+use Rattle.meaning.specs.Base.{Change, changeOf}
 use Rattle.meaning.specs.Store.{Stretch}
-use Rattle.change_asked.specs.Asked.{changeOf}
 use Rattle.store.specs.declared.Answer.{Answer}
 use Rattle.store.specs.Answers.{numberOf, takenOf, addedOf}
 use Rattle.plan_answer.specs.declared.PlanAnswer.{PlanAnswer}

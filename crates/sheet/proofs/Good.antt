@@ -7,10 +7,10 @@ use native.Mathlib.Omega.{arith}
 use lib.Dec.{eqb, leb}
 use lib.ListN.{length}
 use borrow.Author.Tests.{eqb-true, eqb-false}
-use Rattle.lists.specs.Lists.{Words, at, all, select, upTo}
+use Rattle.lists.specs.Lists.{Words, at, Mem, all, select, upTo}
 use Rattle.lists.specs.Loops.{every}
 use Rattle.lists.proofs.Loops.{and-true}
-use Rattle.lists.proofs.Truth.{Mem, isT, T→≡, mem-select, select-mem, mem-getD, mem-upTo, upTo-mem}
+use Rattle.lists.proofs.Truth.{isT, T→≡, mem-select, select-mem, mem-getD, mem-upTo, upTo-mem}
 use Rattle.meaning.specs.Plan.{root}
 use mathlib.Core.List.{List, [], _∷_}
 use mathlib.Core.Logic.{inl, inr}

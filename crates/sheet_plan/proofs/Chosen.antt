@@ -11,9 +11,9 @@ use lib.Dec.{ltb}
 use lib.ListN.{set, List·getD-eq-default}
 use lib.Seq.{getD-at}
 use borrow.Author.Tests.{lt-ltb, le-ltb}
-use Rattle.lists.specs.Lists.{at, select, from, upTo}
+use Rattle.lists.specs.Lists.{at, Mem, select, from, upTo}
 use Rattle.lists.specs.Loops.{filled}
-use Rattle.lists.proofs.Truth.{Mem, from-mem, select-same}
+use Rattle.lists.proofs.Truth.{from-mem, select-same}
 use Rattle.sheet.specs.Counted.{counted}
 use Rattle.laws.proofs.Lists.{select-append}
 use Rattle.sheet.proofs.Numbers.{length-upTo}

@@ -8,8 +8,8 @@ use mathlib.Core.Logic.{inl, inr}
 use native.Mathlib.Omega.{arith}
 use lib.ListN.{length, replicate}
 use borrow.Author.Tests.{eq-eqb, ne-eqb}
-use Rattle.lists.specs.Lists.{Words, at, select, from, upTo, placeOf}
-use Rattle.lists.proofs.Truth.{Mem, T→≡, mem-select, upTo-mem}
+use Rattle.lists.specs.Lists.{Words, at, Mem, select, from, upTo, placeOf}
+use Rattle.lists.proofs.Truth.{T→≡, mem-select, upTo-mem}
 use Rattle.lists.proofs.Loops.{getD-filled}
 use Rattle.meaning.specs.Sheet.{sheetOf, tableCount}
 use Rattle.meaning.specs.Plan.{shown}

@@ -21,11 +21,12 @@ use Rattle.sheet_plan.specs.Planned.{Lengths, Planned}
 use Rattle.sheet_plan.specs.declared.Plan.{Plan}
 use Rattle.sheet_plan.proofs.Shown.{width-small}
 use Rattle.sheet_plan.proofs.Sizes as Sizes
+use Rattle.laws.specs.Sheets as Sheets
 use Rattle.laws.proofs.Stores.{start-next}
 use Rattle.sheet_plan.proofs.Sizes.{shown-few, starts-read}
 use Rattle.sheet_plan.proofs.Spread.{order-in, order-outward}
 use Rattle.sheet_plan.proofs.Places.{place-is}
-use Rattle.laws.proofs.Sheets as Sheets
+use Rattle.laws.proofs.Sheets as SheetLaws
 use Rattle.sheet_plan.specs.Marks.{placesOf}
 use Rattle.sheet_plan.specs.Orders.{orderOf}
 
@@ -107,7 +108,7 @@ module _ (ws : Words) (g : GoodSheet ws) where
       s = sheetOf ws
 
       good : Sheets.Good (sheetOf ws)
-      good = Sheets.good-sheet ws (g .not-refused)
+      good = SheetLaws.good-sheet ws (g .not-refused)
 
 -- the plan that the check hands out with a good verdict
 module _ (ws : Words) (h : sheetRefusal ws ≡ 0) where

@@ -4,8 +4,7 @@ use Prim.Native.Nat.{ℕ, _+_, _*_, _<_, _≤_}
 use mathlib.Core.Path.{_≡_}
 use mathlib.Core.Bool.{_&&_}
 use lib.ListN.{length, getD}
-use Rattle.lists.specs.Lists.{at, placeOf}
-use Rattle.lists.proofs.Truth.{Mem}
+use Rattle.lists.specs.Lists.{at, Mem, placeOf}
 use Rattle.lists.specs.Totals.{one}
 use Rattle.meaning.specs.Sheet.{Sheet, hasColumn, room}
 use Rattle.meaning.specs.Plan.{root, kept, isShown, shown, columns, size, start, storeLength}

@@ -11,8 +11,8 @@ use Rattle.rows.specs.Rows.{Row, Rows, pick}
 use Rattle.meaning.specs.Sheet.{Sheet}
 use Rattle.meaning.specs.Plan.{kept, shown}
 use Rattle.meaning.specs.Store.{rowsAt}
+use Rattle.laws.specs.Sheets.{Good}
 use Rattle.laws.proofs.Columns.{columns-side, shown-first}
-use Rattle.laws.proofs.Sheets.{Good}
 use Rattle.sheet_plan.specs.declared.Plan.{Plan}
 use Rattle.places.specs.Stands.{Stands, withPart}
 use Rattle.store.specs.declared.Part.{Part}

@@ -17,8 +17,8 @@ use Rattle.meaning.specs.Sheet.{Sheet, room}
 use Rattle.meaning.specs.Plan.{kept, shown}
 use Rattle.meaning.specs.Store.{modelOf, rowsAt, count, sound}
 use Rattle.meaning.specs.Change.{qualifies, newKey, oldRow}
+use Rattle.laws.specs.Sheets.{Good}
 use Rattle.laws.proofs.Models.{part-side}
-use Rattle.laws.proofs.Sheets.{Good}
 use Rattle.laws.proofs.Stores.{sound-get, model-many, model-side, sound-proper}
 use Rattle.places.proofs.Parts.{slot-table}
 use Rattle.places.proofs.Stands.{sound-stands}

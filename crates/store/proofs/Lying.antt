@@ -13,7 +13,7 @@ use Rattle.meaning.specs.Sheet.{Sheet}
 use Rattle.meaning.specs.Plan.{columns, size, start, storeLength}
 use Rattle.meaning.specs.Meaning.{Model}
 use Rattle.meaning.specs.Store.{partRows, count, partWords, rowsAt}
-use Rattle.laws.proofs.Sheets.{Good}
+use Rattle.laws.specs.Sheets.{Good}
 use Rattle.places.specs.Stands.{slot, stop, Stands, withPart}
 use Rattle.places.proofs.Parts.{start-after, stop-inside, slot-nine, words-part}
 use Rattle.places.proofs.Stands.{stands-count, stands-rows, stands-written}

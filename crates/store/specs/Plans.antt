@@ -9,7 +9,7 @@ use Rattle.lists.specs.Lists.{Words}
 use Rattle.lists.specs.Loops.{every}
 use Rattle.meaning.specs.Sheet.{Sheet}
 use Rattle.meaning.specs.Store.{sound}
-use Rattle.laws.proofs.Sheets.{Good}
+use Rattle.laws.specs.Sheets.{Good}
 use Rattle.sheet_plan.specs.declared.Plan.{Plan}
 use Rattle.sheet_plan.specs.Planned.{Planned}
 use Rattle.store.specs.declared.Part.{Part}

@@ -14,8 +14,9 @@ use Rattle.lists.proofs.Loops.{getD-filled}
 use Rattle.lists.proofs.Truth.{select-same, upTo-mem}
 use Rattle.meaning.specs.Sheet.{Sheet, sheetOf, sheetRefusal, width}
 use Rattle.meaning.specs.Plan.{TablePlan, kept, isShown, shown, inOrder, tablePlan, goodPlan, noPlan, plan, dep, need}
+use Rattle.laws.specs.Sheets.{Good}
 use Rattle.laws.proofs.Lists.{at-upTo, length-upTo}
-use Rattle.laws.proofs.Sheets.{Good, good-sheet}
+use Rattle.laws.proofs.Sheets.{good-sheet}
 use Rattle.sheet.proofs.Numbers.{member-chosen}
 use Rattle.sheet_plan.specs.Marks.{marked, markedIn}
 use Rattle.sheet_plan.proofs.Chosen.{select-narrow}

@@ -9,9 +9,9 @@ use native.Mathlib.Nat.{add-zero}
 use native.Mathlib.Omega.{arith}
 use lib.Dec.{T, eqb}
 use lib.ListN.{length, set, length-set}
-use Rattle.lists.specs.Lists.{at, all, any, select, member, choices}
+use Rattle.lists.specs.Lists.{at, Mem, all, any, select, choices, member}
 use Rattle.lists.specs.Totals.{total, Same}
-use Rattle.lists.proofs.Truth.{Mem, isT, T→≡, F→≡, all-make, all-same, any-get, any-make, eq→eqb, eqb→≡, same-test, and-fst, and-snd, and-both, cond-false}
+use Rattle.lists.proofs.Truth.{isT, T→≡, F→≡, all-make, all-same, any-get, any-make, eq→eqb, eqb→≡, same-test, and-fst, and-snd, and-both, cond-false}
 use Rattle.lists.proofs.Totals.{total-map, total-select, total-zero, any-of, all-of}
 use Rattle.rows.specs.Rows.{Row, Rows, key, pick, sameRow, sorted, hasKey, noKeyTwice}
 use Rattle.rows.proofs.Ordered.{≡→same}
@@ -21,16 +21,17 @@ use Rattle.meaning.specs.Plan.{root, edgeInto, others, keyListed, needIn, need,
 use Rattle.meaning.specs.Base.{Tables, rowsOf}
 use Rattle.meaning.specs.Meaning.{within, Way, rowIn, joinedBy, heldBy, joins, holds, listRow, theList, Model, meaning}
 use Rattle.meaning.specs.Change.{widened, wideSides, canTake, referring, keysReached, showsKey, rowsFound, withColumns}
+use Rattle.laws.specs.Updates.{Tied}
+use Rattle.laws.specs.Sheets.{Good}
 use Rattle.laws.proofs.Lists.{by-set, any-map, any-select, mem-left, mem-right}
-use Rattle.laws.proofs.Sheets.{Good}
 use Rattle.laws.proofs.Trees.{kept-above, child-shallower, child-of, not-needed, cannot-root, cannot-unkept}
 use Rattle.laws.proofs.Columns.{shown-key, shown-child, widened-pick, key-place, with-row}
 use Rattle.laws.proofs.Keys.{key-mem, once-row}
-use Rattle.laws.proofs.Ways.{Takes, takes-long, takes-here, takes-more, takes-one, total-ways, choices-append, choices-swap, isWay, wayRows, total-wayRows, row-way}
+use Rattle.laws.proofs.Ways.{Takes, takes-long, takes-here, takes-more, takes-one, total-ways}
+use Rattle.laws.proofs.Ways.{choices-append, choices-swap, isWay, wayRows, total-wayRows, row-way}
 use Rattle.laws.proofs.Qualified.{joins-get, qualifiedOf, qualified-mem, way-in, side-kept}
 use Rattle.laws.proofs.Through.{wide-side}
 use Rattle.laws.proofs.Meanings.{meaning-side}
-use Rattle.upkeep.proofs.Tied.{Tied}
 use Rattle.upkeep.proofs.Replace.{Frame, having, alone}
 
 -- Base tables in which no key stands twice, and one of their ways

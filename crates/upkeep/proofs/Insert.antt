@@ -9,20 +9,21 @@ use mathlib.Core.Logic.{inl, inr}
 use native.Mathlib.Omega.{arith}
 use lib.Dec.{T, eqb}
 use lib.ListN.{length}
-use Rattle.lists.specs.Lists.{at, select}
-use Rattle.lists.proofs.Truth.{Mem, F→≡, select-same, eqb→≡, and-fst}
+use Rattle.lists.specs.Lists.{at, Mem, select}
+use Rattle.lists.proofs.Truth.{F→≡, select-same, eqb→≡, and-fst}
 use Rattle.rows.specs.Rows.{Row, Rows, key, hasKey}
 use Rattle.meaning.specs.Sheet.{Edge, Sheet}
 use Rattle.meaning.specs.Base.{Tables, rowsOf}
 use Rattle.meaning.specs.Meaning.{qualified, qualifiedIn, Way, rowIn, joins, holds, meaning}
 use Rattle.meaning.specs.Change.{qualifies, canTake, noEffect, insertEffect, deleteEffect}
+use Rattle.laws.specs.Sheets.{Good}
 use Rattle.laws.proofs.Lists.{here-or}
-use Rattle.laws.proofs.Sheets.{Good}
 use Rattle.laws.proofs.Trees.{Promised, parent-other, all-promised, cannot-root, cannot-unkept}
 use Rattle.laws.proofs.Ways.{Takes, takes-other, takes-one, isWay}
 use Rattle.laws.proofs.Qualified.{qualified-same, joins-get, qualifiedOf}
 use Rattle.laws.proofs.Meanings.{Met, Lawful}
-use Rattle.upkeep.proofs.Replace.{Frame, having, alone, Judges, side-rows-one, side-rows-none, side-rows-nothing, rows-here, rows-other, rows-alike, judges-self, none-nothing, none-unqualified, through-any, Moves, by-qualified}
+use Rattle.upkeep.proofs.Replace.{Frame, having, alone, Judges, side-rows-one, side-rows-none, side-rows-nothing, rows-here, rows-other}
+use Rattle.upkeep.proofs.Replace.{rows-alike, judges-self, none-nothing, none-unqualified, through-any, Moves, by-qualified}
 
 -- a row that is put before others or left out does not matter to another key
 key-past : (b : Bool) (k : ℕ) (r : Row) (rows : Rows) → (k ≡ key r → ⊥) → hasKey k (cond b (r ∷ rows) rows) ≡ hasKey k rows

@@ -11,9 +11,9 @@ use native.Mathlib.Omega.{arith}
 use lib.Dec.{T}
 use lib.ListN.{length, set, length-set}
 use lib.Seq.{getD-set-same, getD-set-other}
-use Rattle.lists.specs.Lists.{select, choices}
+use Rattle.lists.specs.Lists.{Mem, select, choices}
 use Rattle.lists.specs.Totals.{total, Same}
-use Rattle.lists.proofs.Truth.{Mem, T→≡, F→≡, F→not, and-fst, and-snd, select-same, decided, cond-true, cond-false, or-inl, or-inr}
+use Rattle.lists.proofs.Truth.{T→≡, F→≡, F→not, and-fst, and-snd, select-same, decided, cond-true, cond-false, or-inl, or-inr}
 use Rattle.lists.proofs.Totals.{total-select, total-zero, total-length, same-sym}
 use Rattle.rows.specs.Rows.{Row, Rows, key, pick, sameRow, putRow, putRows, sorted, takeRows, hasRow, hasRows, hasKey}
 use Rattle.rows.proofs.Ordered.{same→≡, same-refl}
@@ -24,10 +24,11 @@ use Rattle.meaning.specs.Base.{Tables, rowsOf}
 use Rattle.meaning.specs.Meaning.{qualified, Way, rowIn, joins, holds, ways, listRow, theList, sideTable, Model, meaning}
 use Rattle.meaning.specs.Change.{qualifies, canTake, waysThrough, rowsThrough, Effect, noEffect, sideRow, after, newKey, oldRow}
 use Rattle.meaning.specs.Demands.{waysOf}
+use Rattle.laws.specs.Sheets.{Good}
 use Rattle.laws.proofs.Lists.{select-append, map-append, mem-left}
-use Rattle.laws.proofs.Sheets.{Good}
 use Rattle.laws.proofs.Keys.{key-select}
-use Rattle.laws.proofs.Ways.{Takes, takes-here, takes-more, takes-one, total-ways, same-choices, choices-append, isWay, wayRows, total-wayRows, no-ways, list-append, list-rising}
+use Rattle.laws.proofs.Ways.{Takes, takes-here, takes-more, takes-one, total-ways, same-choices, choices-append}
+use Rattle.laws.proofs.Ways.{isWay, wayRows, total-wayRows, no-ways, list-append, list-rising}
 use Rattle.laws.proofs.Qualified.{qualifiedOf, qualified-is, way-qualified, side-unkept, side-key}
 use Rattle.laws.proofs.Through.{same-through}
 use Rattle.laws.proofs.Meanings.{meaning-side, meaning-list, qualifies-is, after-is}
@@ -216,7 +217,6 @@ module _ (s : Sheet) (g : Good s) (fr : Frame s) where
         same-through s g A R r F m
         (record {
           many = fr .many;
-          inside = fr .inside;
           sides = λ u i d kept-u. meaning-side s old u i ∙ side-other F O judges-self u i d ∙ cond-true (kept s u) _ [] kept-u;
           qual = q;
           good = way-judged F own judges r k;

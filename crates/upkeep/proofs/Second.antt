@@ -14,8 +14,9 @@ use Rattle.meaning.specs.Meaning.{Model, meaning}
 use Rattle.meaning.specs.Store.{partRows, storeOf, modelOf, sound, fits, show}
 use Rattle.meaning.specs.Fill.{filled, fill}
 use Rattle.meaning.specs.Demands.{sheetTests, fillTests, showTests, Derived, Filled, Demand2}
+use Rattle.laws.specs.Sheets.{Good}
 use Rattle.laws.proofs.Numbers.{Passed, passed-zero, fill-first, fill-accepted, show-first, show-accepted}
-use Rattle.laws.proofs.Sheets.{Good, sheet-passed, good-sheet}
+use Rattle.laws.proofs.Sheets.{sheet-passed, good-sheet}
 use Rattle.laws.proofs.Trees.{dep-plus-is, need-listed, need-root, need-child, only-root-unkept}
 use Rattle.laws.proofs.Qualified.{side-table-is}
 use Rattle.laws.proofs.Meanings.{base-lawful, meaning-list}

@@ -15,14 +15,16 @@ use Rattle.rows.specs.Rows.{cut, wordOrder, thenBy, rowOrder, isLess, smaller, 
 use Rattle.rows.proofs.Ordered.{≡→same}
 use Rattle.meaning.specs.Answers.{Outcome}
 use Rattle.meaning.specs.Sheet.{sheetOf, goodCounts, goodEdge, goodCondition, goodListed, goodWords, goodTree, sheetRefusal}
-use Rattle.meaning.specs.Plan.{Plan, root, edgeInto, others, dep, depPlus, need, kept, isShown, shown, columns, size, start, storeLength, inOrder, tablePlan, goodPlan, plan}
-use Rattle.meaning.specs.Base.{Change, baseStart, baseOf, hasParents, lawfulTable, lawful, goodBase, goodChange, tied, sameTied, tiedStay, lawfulChange, changed}
+use Rattle.meaning.specs.Plan.{Plan, root, edgeInto, others, dep, depPlus, need, kept, isShown, shown}
+use Rattle.meaning.specs.Plan.{columns, size, start, storeLength, inOrder, tablePlan, goodPlan, plan}
+use Rattle.meaning.specs.Base.{baseStart, baseOf, hasParents, lawfulTable, lawful, goodBase, Change}
+use Rattle.meaning.specs.Base.{changeOf, goodChange, tied, sameTied, tiedStay, lawfulChange, changed}
 use Rattle.meaning.specs.Meaning.{meets, qualified, sideTable, joins, holds, ways, listRow, theList, meaning}
 use Rattle.meaning.specs.Store.{counts, storeOf, partWords, rowsAt, modelOf, soundPart, soundTable, sound, fits}
-use Rattle.meaning.specs.Change.{widened, wideSides, canTake, waysThrough, rowsThrough, sideRow, insertEffect, deleteEffect, effect, after, newKey, oldRow, agrees, modelAfter, changeRefusal, accepted, change}
+use Rattle.meaning.specs.Change.{widened, wideSides, canTake, waysThrough, rowsThrough, sideRow, insertEffect, deleteEffect}
+use Rattle.meaning.specs.Change.{effect, after, newKey, oldRow, agrees, modelAfter, changeRefusal, accepted, change}
 use Rattle.meaning.specs.Fill.{fillRefusal, filled, fill}
 use Rattle.meaning.specs.Demands.{Refused, Filled, waysOf, outgrows}
-use Rattle.laws.proofs.Changes.{made}
 use Rattle.upkeep.proofs.Second.{demand2}
 use Rattle.upkeep.proofs.Third.{zero-or, demand3}
 
@@ -88,13 +90,13 @@ two = 2 ∷ 1 ∷ 5 ∷ 2 ∷ 6 ∷ []
 
 -- filled with none, then (1, 5) and (2, 6) inserted, then (1, 5) deleted
 first : Change
-first = made 1 0 [] (1 ∷ 5 ∷ [])
+first = changeOf 1 0 [] (1 ∷ 5 ∷ [])
 
 second : Change
-second = made 1 0 [] (2 ∷ 6 ∷ [])
+second = changeOf 1 0 [] (2 ∷ 6 ∷ [])
 
 third : Change
-third = made 2 0 (1 ∷ 5 ∷ []) []
+third = changeOf 2 0 (1 ∷ 5 ∷ []) []
 
 store : Words
 store = fill (sheet 2) old none .words

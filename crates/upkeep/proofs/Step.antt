@@ -10,27 +10,28 @@ use native.Mathlib.Omega.{arith}
 use lib.Dec.{T, eqb}
 use lib.ListN.{length, set, length-set}
 use lib.Seq.{set-getD}
-use Rattle.lists.specs.Lists.{at, any}
+use Rattle.lists.specs.Lists.{at, Mem, any}
 use Rattle.lists.specs.Totals.{Same}
-use Rattle.lists.proofs.Truth.{Mem, not→F, any-make, select-mem, eq→eqb, and-fst, and-both, or-inr}
+use Rattle.lists.proofs.Truth.{not→F, any-make, select-mem, eq→eqb, and-fst, and-both, or-inr}
 use Rattle.lists.proofs.Totals.{same-length, any-of}
 use Rattle.rows.specs.Rows.{Row, Rows, key, takeRow, hasRow, hasRows, hasKey, noKeyTwice}
 use Rattle.rows.proofs.Sorted.{same-take}
 use Rattle.meaning.specs.Sheet.{Edge, Sheet, width, goesInto, edgesInto}
 use Rattle.meaning.specs.Plan.{isPromised}
-use Rattle.meaning.specs.Base.{Tables, rowsOf, Change, goodChange, hasParents, tiedStay, sameTied, refers, hasPromisedChild, lawfulChange, changed}
+use Rattle.meaning.specs.Base.{Tables, rowsOf, hasParents, Change, changeOf, goodChange, sameTied, tiedStay, refers, hasPromisedChild, lawfulChange, changed}
 use Rattle.meaning.specs.Meaning.{Model, meaning}
 use Rattle.meaning.specs.Change.{insertEffect, effect, after, newKey, oldRow, foundShow, agrees}
 use Rattle.meaning.specs.Demands.{waysOf}
+use Rattle.laws.specs.Updates.{Tied}
+use Rattle.laws.specs.Sheets.{Good}
 use Rattle.laws.proofs.Lists.{by-set, Each, facts, facts-make}
-use Rattle.laws.proofs.Sheets.{Good}
 use Rattle.laws.proofs.Trees.{Promised, parent-other}
 use Rattle.laws.proofs.Keys.{has-mem, key-mem, take-mem, once-cons, once-same, once-take, key-gone, key-stays}
 use Rattle.laws.proofs.Qualified.{qualifiedOf}
 use Rattle.laws.proofs.Ways.{wayRows}
 use Rattle.laws.proofs.Meanings.{Met, Lawful, parents-get, lawful-set, meaning-same}
-use Rattle.laws.proofs.Changes.{made, by-kind}
-use Rattle.upkeep.proofs.Tied.{Tied, tied-get}
+use Rattle.laws.proofs.Changes.{by-kind}
+use Rattle.laws.proofs.Updates.{tied-get}
 use Rattle.upkeep.proofs.Replace.{Frame, having, alone, Judges, rows-other, ways-of, ways-of-same, Moves, replaced, replaced-has, new-key, old-row}
 use Rattle.upkeep.proofs.Insert.{judges-in, judges-out, insert-moves, delete-moves}
 use Rattle.upkeep.proofs.Update.{judges-new, update-moves, update-show}
@@ -65,12 +66,13 @@ module _ (s : Sheet) (g : Good s) (B : Tables) (law : Lawful s B) (R : ℕ) (ins
     old-once t i = once-same (rowsOf B t) (rowsOf old t) (old-same t) (law .keys t i)
 
     -- a change that takes O's rows and puts N's
-    pub step : (N : Rows) (kind : ℕ) (r r′ : Row) → changed B (made kind R r r′) ≡ having (frame rest) N → Judges s (qualifiedOf s old) (having (frame rest) N)
-        → Moves s g (frame rest) O N (effect s (meaning s old) (made kind R r r′)) → T (agrees s (meaning s old) (made kind R r r′))
+    pub step : (N : Rows) (kind : ℕ) (r r′ : Row) → changed B (changeOf kind R r r′) ≡ having (frame rest) N
+        → Judges s (qualifiedOf s old) (having (frame rest) N)
+        → Moves s g (frame rest) O N (effect s (meaning s old) (changeOf kind R r r′)) → T (agrees s (meaning s old) (changeOf kind R r r′))
         → Lawful s (having (frame rest) N) → ((y : Row) → Mem y O → y ≡ r) → (Mem r rest → ⊥) → ((y : Row) → Mem y N → y ≡ r′) → (Mem r′ rest → ⊥)
-        → Done s B (made kind R r r′)
+        → Done s B (changeOf kind R r r′)
     step N kind r r′ is judges moves agreed lawful o o′ n n′ =
-        let c = made kind R r r′ in
+        let c = changeOf kind R r r′ in
         record {
           agreed = subst (λ (m : Model). T (agrees s m c)) (sym same-model) agreed;
           right = ap (λ m. after m R (effect s m c)) same-model ∙ replaced s g (frame rest) O N judges (effect s (meaning s old) c) moves
@@ -117,7 +119,7 @@ module _ (s : Sheet) (g : Good s) (B : Tables) (law : Lawful s B) (R : ℕ) (ins
         parents x (inl q) e p = subst (λ (y : Row). Met B (e .parent) (at y (e .column))) (sym q) (par e p)
         parents x (inr m) e p = law .parents R inside x m e p
 
-    pub insert-done : Done s B (made 1 R r r′)
+    pub insert-done : Done s B (changeOf 1 R r r′)
     unfolding agrees effect changed insertEffect
     insert-done =
         let rest = rowsOf B R in
@@ -127,7 +129,7 @@ module _ (s : Sheet) (g : Good s) (B : Tables) (law : Lawful s B) (R : ℕ) (ins
         let moves = insert-moves s g (frame rest) r′ E-law new E-par in
         step [] rest (λ f. refl) (r′ ∷ []) 1 r r′ refl (judges-in s g (frame rest) r′ E-law new E-par) moves
         (and-both (newKey (meaning s (set B R rest)) R r′)
-        (hasRows (effect s (meaning s (set B R rest)) (made 1 R r r′) .listOut) (meaning s (set B R rest) .list))
+        (hasRows (effect s (meaning s (set B R rest)) (changeOf 1 R r r′) .listOut) (meaning s (set B R rest) .list))
         (new-key s g (frame rest) r′ new) (replaced-has s g (frame rest) [] (r′ ∷ []) _ moves))
         inserted-lawful (λ y m. absurd m) (none-empty r none) (only r′) (key-not r′ rest new)
 
@@ -168,13 +170,13 @@ module _ (s : Sheet) (g : Good s) (B : Tables) (law : Lawful s B) (R : ℕ) (ins
           (sym (rows-other s g (frame rest) [] (e .parent) (λ d. parent-other s g e (p .edge) (d ∙ sym (p .child)))))
           (law .parents R inside r there e p)
 
-      pub delete-done : Done s B (made 2 R r r′)
+      pub delete-done : Done s B (changeOf 2 R r r′)
       unfolding agrees effect changed
       delete-done =
           let m = meaning s (having (frame rest) (r ∷ [])) in
           let moves = delete-moves s g (frame rest) r deleted-lawful gone par in
           step (r ∷ []) rest (same-take r (rowsOf B R) has) [] 2 r r′ refl (judges-out s g (frame rest) r deleted-lawful gone par) moves
-          (and-both (oldRow s m R r) (hasRows (effect s m (made 2 R r r′) .listOut) (m .list))
+          (and-both (oldRow s m R r) (hasRows (effect s m (changeOf 2 R r r′) .listOut) (m .list))
           (old-row s g (frame rest) r gone) (replaced-has s g (frame rest) (r ∷ []) [] _ moves))
           deleted-lawful (only r) (key-not r rest gone) (λ y m. absurd m) (λ m. none-empty r′ none (rest-in r′ m))
 
@@ -200,7 +202,7 @@ module _ (s : Sheet) (g : Good s) (B : Tables) (law : Lawful s B) (R : ℕ) (ins
               subst (Met B (e .parent)) (tie .children e (p .edge) (p .child) ∙ ap (λ y. at y (e .column)) (sym q)) (law .parents R inside r there e p)
           parents x (inr m) e p = law .parents R inside x (rest-in x m) e p
 
-      pub update-done : Done s B (made 3 R r r′)
+      pub update-done : Done s B (changeOf 3 R r r′)
       unfolding agrees effect changed
       update-done =
           let m = meaning s (having (frame rest) (r ∷ [])) in
@@ -208,7 +210,7 @@ module _ (s : Sheet) (g : Good s) (B : Tables) (law : Lawful s B) (R : ℕ) (ins
           let once = old-once (r ∷ []) rest same in
           let moves = update-moves s g (frame rest) r r′ tie once gone in
           step (r ∷ []) rest same (r′ ∷ []) 3 r r′ refl (judges-new s g (frame rest) r r′ tie) moves
-          (facts-make (oldRow s m R r ∷ foundShow s m R r ∷ hasRows (effect s m (made 3 R r r′) .listOut) (m .list) ∷ []) (
+          (facts-make (oldRow s m R r ∷ foundShow s m R r ∷ hasRows (effect s m (changeOf 3 R r r′) .listOut) (m .list) ∷ []) (
             old-row s g (frame rest) r gone,
             (
               update-show s g (frame rest) r r′ tie once gone,
@@ -227,15 +229,15 @@ unfolding lawfulChange tiedStay
 done s g B law c h =
     by-kind s (λ c. T (lawfulChange s B c) → Done s B c)
     (λ t r r′ l e e′ h.
-    let w = facts (goodChange s (made 1 t r r′) ∷ (not (hasKey (key r′) (rowsOf B t)) && hasParents s B t r′) ∷ []) h in
+    let w = facts (goodChange s (changeOf 1 t r r′) ∷ (not (hasKey (key r′) (rowsOf B t)) && hasParents s B t r′) ∷ []) h in
     let k = facts (not (hasKey (key r′) (rowsOf B t)) ∷ hasParents s B t r′ ∷ []) (w .1 .0) in
     insert-done s g B law t l r r′ e e′ (not→F (hasKey (key r′) (rowsOf B t)) (k .0)) (parents-get s B t r′ (k .1 .0)))
     (λ t r r′ l e e′ h.
-    let w = facts (goodChange s (made 2 t r r′) ∷ (hasRow r (rowsOf B t) && not (hasPromisedChild s B t (key r))) ∷ []) h in
+    let w = facts (goodChange s (changeOf 2 t r r′) ∷ (hasRow r (rowsOf B t) && not (hasPromisedChild s B t (key r))) ∷ []) h in
     let k = facts (hasRow r (rowsOf B t) ∷ not (hasPromisedChild s B t (key r)) ∷ []) (w .1 .0) in
     delete-done s g B law t l r (k .0) r′ e′ (not→F (hasPromisedChild s B t (key r)) (k .1 .0)))
     (λ t r r′ l e e′ q h.
-    let w = facts (goodChange s (made 3 t r r′) ∷ (hasRow r (rowsOf B t) && sameTied s t r r′) ∷ []) h in
+    let w = facts (goodChange s (changeOf 3 t r r′) ∷ (hasRow r (rowsOf B t) && sameTied s t r r′) ∷ []) h in
     let k = facts (hasRow r (rowsOf B t) ∷ sameTied s t r r′ ∷ []) (w .1 .0) in
     update-done s g B law t l r (k .0) r′ e′ (tied-get s g t r r′ q (k .1 .0)))
     c (lawful-good s B c h) h

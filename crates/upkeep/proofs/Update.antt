@@ -15,13 +15,15 @@ use Rattle.meaning.specs.Sheet.{Sheet}
 use Rattle.meaning.specs.Base.{Tables, rowsOf}
 use Rattle.meaning.specs.Meaning.{qualified, qualifiedIn, Model, meaning}
 use Rattle.meaning.specs.Change.{qualifies, canTake, rowsThrough, rowsFound, withColumns, noEffect, updateEffect, foundShow}
+use Rattle.laws.specs.Updates.{Tied}
+use Rattle.laws.specs.Sheets.{Good}
 use Rattle.laws.proofs.Lists.{here-or}
-use Rattle.laws.proofs.Sheets.{Good}
 use Rattle.laws.proofs.Qualified.{qualified-same, qualifiedOf}
 use Rattle.laws.proofs.Ways.{wayRows}
-use Rattle.upkeep.proofs.Tied.{Tied, tied-qualified}
+use Rattle.laws.proofs.Updates.{tied-qualified}
 use Rattle.upkeep.proofs.ByKey.{found-same, found-show, found-new}
-use Rattle.upkeep.proofs.Replace.{Frame, having, alone, Judges, side-rows-one, side-rows-none, rows-here, rows-alike, judges-self, none-unqualified, through-is, Moves, by-qualified}
+use Rattle.upkeep.proofs.Replace.{Frame, having, alone, Judges, side-rows-one, side-rows-none, rows-here}
+use Rattle.upkeep.proofs.Replace.{rows-alike, judges-self, none-unqualified, through-is, Moves, by-qualified}
 
 -- a row for another with its key
 key-swap : (b : Bool) (k : ℕ) (r r′ : Row) (rows : Rows) → key r ≡ key r′ → hasKey k (cond b (r ∷ rows) rows) ≡ hasKey k (cond b (r′ ∷ rows) rows)
@@ -29,9 +31,6 @@ key-swap true k r r′ rows e = ap (λ x. eqb k x || hasKey k rows) e
 key-swap false k r r′ rows e = refl
 
 module _ (s : Sheet) (g : Good s) (fr : Frame s) (r r′ : Row) (tie : Tied s (fr .table) r r′) where
-  abbrev A : Tables
-  A = fr .base
-
   abbrev R : ℕ
   R = fr .table
 
