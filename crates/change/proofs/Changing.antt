@@ -16,7 +16,7 @@ use Rattle.meaning.specs.Change.{change}
 use Rattle.effects.proofs.Calls.{refuses-sheet, refuses-length, refuses-change, refuses-tied, refuses-unsound, change-is}
 use Rattle.sheet.specs.declared.Verdict.{Verdict}
 use Rattle.sheet.specs.declared.Verdict.the-variants as Verdicts
-use Rattle.sheet.specs.Verdicts.{numberOf}
+use Rattle.sheet.specs.Verdicts.{verdictNumber}
 use Rattle.sheet.specs.Tree.{GoodSheet}
 use Rattle.sheet.proofs.Good.{good-sheet}
 use Rattle.sheet_plan.specs.declared.Checked.{Checked}
@@ -43,11 +43,11 @@ pub sheet-good : (sheet : Words) (k : Checked) → k ≡ checkedOf sheet → k .
 sheet-good sheet k e g = good-sheet sheet (check-good sheet k e g)
 
 module _ (sheet store : Words) (c : Change) (k : Checked) (e : k ≡ checkedOf sheet) where
-  pub says-sheet : (n r : ℕ) → k .verdict ≡ Verdicts.Refused n → r ≡ numberOf (k .verdict) → Says (change sheet store c) (Refused r) store
+  pub says-sheet : (n r : ℕ) → k .verdict ≡ Verdicts.Refused n → r ≡ verdictNumber (k .verdict) → Says (change sheet store c) (Refused r) store
   says-sheet n r v q =
       let number = check-refused sheet k e n v in
       let d = check-numbered sheet k e n v in
-      rw (q ∙ ap numberOf v) (says-refused (change sheet store c) n store d
+      rw (q ∙ ap verdictNumber v) (says-refused (change sheet store c) n store d
       (refuses-sheet sheet store c (λ z. d (sym number ∙ z)) ∙ ap (λ (j : ℕ). refused j store) number))
 
   module _ (g : k .verdict ≡ Verdicts.Good) where
@@ -73,7 +73,8 @@ module _ (sheet store : Words) (c : Change) (k : Checked) (e : k ≡ checkedOf s
           number j q = cc
 
           go : (a : Bool) → goodChange (sheetOf sheet) c ≡ a → (b : Bool) → tiedStay (sheetOf sheet) c ≡ b
-              → cond {A = Verdict} a (cond b Verdicts.Good (Verdicts.Refused 6)) (Verdicts.Refused 5) ≡ Verdicts.Refused n → Says (change sheet store c) (Refused n) store
+              → cond {A = Verdict} a (cond b Verdicts.Good (Verdicts.Refused 6)) (Verdicts.Refused 5) ≡ Verdicts.Refused n
+              → Says (change sheet store c) (Refused n) store
           go true x true y q = absurd (let z : _≡_ {A = ℕ} 0 1 = cc in omega arith)
           go true x false y q =
               subst (λ (j : ℕ). Says (change sheet store c) (Refused j) store) (number 6 q)
@@ -83,8 +84,8 @@ module _ (sheet store : Words) (c : Change) (k : Checked) (e : k ≡ checkedOf s
               (says-refused (change sheet store c) 5 store (λ z. omega arith) (refuses-change sheet store c good (l ∙ long-is) x))
 
       module _ (v : Verdict) (a : v ≡ askedOf sheet c) where
-        pub says-asked : (n r : ℕ) → v ≡ Verdicts.Refused n → r ≡ numberOf v → Says (change sheet store c) (Refused r) store
-        says-asked n r w q = rw (q ∙ ap numberOf w) (asked-refused n (sym a ∙ w))
+        pub says-asked : (n r : ℕ) → v ≡ Verdicts.Refused n → r ≡ verdictNumber v → Says (change sheet store c) (Refused r) store
+        says-asked n r w q = rw (q ∙ ap verdictNumber w) (asked-refused n (sym a ∙ w))
 
         module _ (w : v ≡ Verdicts.Good) (b : Bool) (is : SoundIs (k .plan) store b) where
           tests : (goodChange (sheetOf sheet) c ≡ true) × (tiedStay (sheetOf sheet) c ≡ true)

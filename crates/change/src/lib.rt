@@ -17,7 +17,8 @@ pub fn change(
     old: &[u64],
     new: &[u64],
 ) -> Answer
-    ensures { λ a. ⌜ Says (Meant.change (now (sheet .entry)) (now (store .entry)) (changeOf kind table (now (old .entry)) (now (new .entry)))) a (now (store .exit)) ⌝ }
+    ensures { λ a. ⌜ Says (Meant.change (now (sheet .entry)) (now (store .entry)) (changeOf kind table (now (old .entry)) (now (new .entry))))
+        a (now (store .exit)) ⌝ }
 {
     let checked = sheet_plan::check(sheet);
     let v = checked.verdict;

@@ -62,11 +62,13 @@ module _ {ws store : Words} {plan : Plan} (rd : Ready ws store plan) {t : ℕ} {
         deletes-contradicts-list e =
             record {
               says = λ o. says-refused (applied (sheetOf ws) store (changeOf 2 t r o)) 8 store (λ z. omega arith)
-                  (delete-contradicts-list (sheetOf ws) (ready-good rd) store (rd .sound) t (ready-table rd lent) r o old fine (subst (WaysTaken ws store t r marks) e m));
+                  (delete-contradicts-list (sheetOf ws) (ready-good rd) store (rd .sound) t (ready-table rd lent) r o old fine
+                  (subst (WaysTaken ws store t r marks) e m));
             }
 
         -- its rows leave the list and then its side table
-        module _ (list : Part) (lies : Lies (sheetOf ws) (sheetOf ws .n) list) (mid : Words) (w : Wrote list (unmarked marks (rowsIn list store)) store mid) where
+        module _ (list : Part) (lies : Lies (sheetOf ws) (sheetOf ws .n) list) (mid : Words)
+            (w : Wrote list (unmarked marks (rowsIn list store)) store mid) where
           pub deletes-done : (k : ℕ) → a ≡ All k → (exit : Words) → Sided (sheetOf ws) t (takeRows (sideRow (sheetOf ws) t r)) mid exit
               → Deletes ws store t r (Done k 0) exit
           deletes-done k e exit si =
@@ -74,7 +76,8 @@ module _ {ws store : Words} {plan : Plan} (rd : Ready ws store plan) {t : ℕ} {
               let so = subst (WaysTaken ws store t r marks) e m in
               let left = unmarked marks (rowsAt s store (s .n)) in
               let many = length (walkRows s (modelOf s store) t r) in
-              let wrote : Wrote list left store mid = subst (λ (rows : Rows). Wrote list (unmarked marks rows) store mid) (rows-is s (s .n) list lies store) w in
+              let wrote : Wrote list left store mid =
+              subst (λ (rows : Rows). Wrote list (unmarked marks rows) store mid) (rows-is s (s .n) list lies store) w in
               record {
                 says = λ o. says-all s store t many 0 (takeRows (sideRow s t r) (rowsAt s store t)) left (applied s store (changeOf 2 t r o)) k 0 exit
                     (delete-done s (ready-good rd) store (rd .sound) t (ready-table rd lent) r o old fine marks (so .1)) (so .0) refl

@@ -44,8 +44,12 @@ module _ {ws store : Words} {plan : Plan} (rd : Ready ws store plan) {t : ℕ} {
   module _ (b : Bool) (e : b ≡ newKey (modelOf (sheetOf ws) store) t r) where
     pub inserts-contradicts : not b ≡ true → Inserts ws store t r (Refused 8) store
     inserts-contradicts h =
-        let there : hasKey (key r) (rowsAt (sheetOf ws) store t) ≡ true = not-false (hasKey (key r) (rowsAt (sheetOf ws) store t)) (sym (key-is b e) ∙ not-true b h) in
-        record { says = λ o. says-refused (applied (sheetOf ws) store (changeOf 1 t o r)) 8 store (λ z. omega arith) (insert-contradicts (sheetOf ws) (ready-good rd) store (rd .sound) t (ready-table rd lent) o r there) }
+        let there : hasKey (key r) (rowsAt (sheetOf ws) store t) ≡ true =
+        not-false (hasKey (key r) (rowsAt (sheetOf ws) store t)) (sym (key-is b e) ∙ not-true b h) in
+        record {
+          says = λ o. says-refused (applied (sheetOf ws) store (changeOf 1 t o r)) 8 store (λ z. omega arith)
+              (insert-contradicts (sheetOf ws) (ready-good rd) store (rd .sound) t (ready-table rd lent) o r there);
+        }
 
     module _ (h : not b ≡ false) where
       new : hasKey (key r) (rowsAt (sheetOf ws) store t) ≡ false
@@ -75,19 +79,29 @@ module _ {ws store : Words} {plan : Plan} (rd : Ready ws store plan) {t : ℕ} {
                 }
 
             -- the list has not so much room
-            module _ (free : not c ≡ false) (list : Part) (lies : Lies (sheetOf ws) (sheetOf ws .n) list) (k : ℕ) (many : k ≡ length (walkRows (sheetOf ws) (modelOf (sheetOf ws) store) t r)) where
+            module _ (free : not c ≡ false) (list : Part) (lies : Lies (sheetOf ws) (sheetOf ws .n) list)
+                (k : ℕ) (many : k ≡ length (walkRows (sheetOf ws) (modelOf (sheetOf ws) store) t r)) where
+              -- the list's rows and room as the part has them
+              listed-is : countIn list store ≡ count (sheetOf ws) store (sheetOf ws .n)
+              listed-is = count-is (sheetOf ws) (sheetOf ws .n) list lies store
+
+              list-fits : countIn list store ≤ list .room
+              list-fits = list-room (sheetOf ws) (ready-good rd) store (rd .sound) list lies
+
               pub inserts-no-room-list : list .room - countIn list store < k → Inserts ws store t r (Refused 9) store
               inserts-no-room-list full =
-                  let more : room (sheetOf ws) (sheetOf ws .n) < length (walkRows (sheetOf ws) (modelOf (sheetOf ws) store) t r) + count (sheetOf ws) store (sheetOf ws .n) =
-                  omega (arith, lies .room-is, count-is (sheetOf ws) (sheetOf ws .n) list lies store, many, list-room (sheetOf ws) (ready-good rd) store (rd .sound) list lies) in
+                  let s = sheetOf ws in
+                  let more : room s (s .n) < length (walkRows s (modelOf s store) t r) + count s store (s .n) =
+                  omega (arith, lies .room-is, listed-is, many, list-fits) in
                   record {
-                    says = λ o. says-refused (applied (sheetOf ws) store (changeOf 1 t o r)) 9 store (λ z. omega arith)
-                        (insert-no-room-list (sheetOf ws) (ready-good rd) store (rd .sound) t (ready-table rd lent) o r new fine more);
+                    says = λ o. says-refused (applied s store (changeOf 1 t o r)) 9 store (λ z. omega arith)
+                        (insert-no-room-list s (ready-good rd) store (rd .sound) t (ready-table rd lent) o r new fine more);
                   }
 
               module _ (enough : k ≤ list .room - countIn list store) where
-                left : length (walkRows (sheetOf ws) (modelOf (sheetOf ws) store) t r) + count (sheetOf ws) store (sheetOf ws .n) ≤ room (sheetOf ws) (sheetOf ws .n)
-                left = omega (arith, lies .room-is, count-is (sheetOf ws) (sheetOf ws .n) list lies store, many, list-room (sheetOf ws) (ready-good rd) store (rd .sound) list lies)
+                left : length (walkRows (sheetOf ws) (modelOf (sheetOf ws) store) t r) + count (sheetOf ws) store (sheetOf ws .n)
+                    ≤ room (sheetOf ws) (sheetOf ws .n)
+                left = omega (arith, lies .room-is, listed-is, many, list-fits)
 
                 pub adding : Adding ws store list t r
                 adding = record { sound = rd .sound; lies = lies; room = left }
@@ -111,9 +125,11 @@ module _ {ws store : Words} {plan : Plan} (rd : Ready ws store plan) {t : ℕ} {
                       let s = sheetOf ws in
                       let rows = walkRows s (modelOf s store) t r in
                       let listed = sorted (rowsAt s store (s .n) ++ rows) in
-                      let wrote : Wrote list listed store mid = subst (λ (l : Rows). Wrote list (sorted (l ++ rows)) store mid) (rows-is s (s .n) list lies store) w in
+                      let wrote : Wrote list listed store mid =
+                      subst (λ (l : Rows). Wrote list (sorted (l ++ rows)) store mid) (rows-is s (s .n) list lies store) w in
                       record {
-                        says = λ o. says-all s store t 0 (length rows) (putRows (sideRow s t r) (rowsAt s store t)) listed (applied s store (changeOf 1 t o r)) 0 k exit
+                        says = λ o. says-all s store t 0 (length rows) (putRows (sideRow s t r) (rowsAt s store t)) listed
+                            (applied s store (changeOf 1 t o r)) 0 k exit
                             (insert-done s (ready-good rd) store (rd .sound) t (ready-table rd lent) o r new fine (room-free s store t has-room) left) refl many
                             (both-words rd list lies listed mid wrote t (ready-table rd lent) (putRows (sideRow s t r)) exit si 0 (length rows));
                       }

@@ -98,8 +98,9 @@ module _ {ws store : Words} {plan : Plan} (rd : Ready ws store plan) (t : ℕ) (
     by-key Contrary h = λ q. inl (shows-no (sheetOf ws) (modelOf (sheetOf ws) store) t r no-way h q)
 
 -- The marked rows get the new row's columns where they stand, and are settled
-module _ (sheet : Words) (t : ℕ) (r : Row) (marks : Words) (p : Part) (old : Words) (k : Kept p old) (few : countIn p old ≤ p .room) (w : p .columns ≡ listedCount sheet)
-    (mid : Words) (e : mid ≡ splice old (p .start) (stopOf p) (given sheet t r marks (countIn p old) (wordsIn p old))) where
+module _ (sheet : Words) (t : ℕ) (r : Row) (marks : Words) (p : Part) (old : Words) (k : Kept p old)
+    (few : countIn p old ≤ p .room) (w : p .columns ≡ listedCount sheet) (mid : Words)
+    (e : mid ≡ splice old (p .start) (stopOf p) (given sheet t r marks (countIn p old) (wordsIn p old))) where
   rows : Rows
   rows = altered (isMarked marks) (gives sheet t r) (rowsIn p old)
 

@@ -91,7 +91,8 @@ module _ {ws store : Words} {plan : Plan} (rd : Ready ws store plan) {t : ℕ} {
               }
 
           pub updates-done : (k : ℕ) → a ≡ All k → (exit : Words)
-              → Sided (sheetOf ws) t (λ (rows : Rows). putRows (sideRow (sheetOf ws) t r′) (takeRows (sideRow (sheetOf ws) t r) rows)) mid exit → Updates ws store t r r′ (Done k k) exit
+              → Sided (sheetOf ws) t (λ (rows : Rows). putRows (sideRow (sheetOf ws) t r′) (takeRows (sideRow (sheetOf ws) t r) rows)) mid exit
+              → Updates ws store t r r′ (Done k k) exit
           unfolding gives
           updates-done k e exit si =
               let s = sheetOf ws in

@@ -8,17 +8,15 @@ use store::Part;
 ghost use mathlib.Core.Path.{_≡_};
 ghost use Prim.Native.Nat.{ℕ, _<_, _≤_};
 ghost use lib.ListN.{length, replicate};
-ghost use Rattle.rows.specs.Rows.{sorted};
 ghost use Rattle.meaning.specs.Limits.{mostRoom};
 ghost use Rattle.meaning.specs.Sheet.{sheetOf, listedCount};
 ghost use Rattle.laws.specs.Updates.{Tied};
 ghost use Rattle.sheet.specs.Rules.{Rules};
-ghost use Rattle.walks.specs.Marks.{altered, isMarked};
-ghost use Rattle.list_part.specs.Gives.{gives, Fits};
+ghost use Rattle.list_part.specs.Gives.{Fits};
 ghost use Rattle.walk.specs.Grounds.{Lent};
-ghost use Rattle.store.specs.Parts.{countIn, rowsIn, Lies, Kept, Wrote};
+ghost use Rattle.store.specs.Parts.{countIn, Lies, Kept};
 ghost use Rattle.change_laws.specs.Ready.{Ready};
-ghost use Rattle.change_update.specs.Updates.{ReplacedTaken, Updates};
+ghost use Rattle.change_update.specs.Updates.{ReplacedTaken, RowsReplaced, Updates};
 
 // Marks the list rows that an update of a row replaces: those of the ways through it, or, if no way can be taken, those found by its key.
 fn mark_replaced(
@@ -96,7 +94,7 @@ fn replace_rows(
     requires { ⌜ countIn list (now store) ≤ list .room ⌝ }
     requires { ⌜ list .columns ≡ listedCount (now sheet) ⌝ }
     requires { ⌜ countIn list (now store) ≤ length (now marks) ⌝ }
-    ensures { λ _. ⌜ Wrote list (sorted (altered (isMarked (now (marks .entry))) (gives (now (sheet .entry)) table (now (row .entry))) (rowsIn list (now (store .entry))))) (now (store .entry)) (now (store .exit)) ⌝ }
+    ensures { λ _. ⌜ RowsReplaced (now (sheet .entry)) table (now (row .entry)) (now (marks .entry)) list (now (store .entry)) (now (store .exit)) ⌝ }
 {
     let slot = list.slot;
     let count = store[slot] as usize;

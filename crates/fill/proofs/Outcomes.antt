@@ -12,7 +12,7 @@ use Rattle.meaning.specs.Plan as Plans
 use Rattle.meaning.specs.Base.{lawful, goodBase, baseOf}
 use Rattle.meaning.specs.Fill.{fill}
 use Rattle.sheet.specs.Tree.{GoodSheet}
-use Rattle.sheet.specs.Verdicts.{numberOf}
+use Rattle.sheet.specs.Verdicts.{verdictNumber}
 use Rattle.sheet.specs.declared.Verdict.the-variants as Verdicts
 use Rattle.sheet.proofs.Good.{good-sheet}
 use Rattle.sheet_plan.specs.declared.Checked.{Checked}
@@ -37,9 +37,9 @@ fill-once sheet store base a b v w x y = says-once (fill sheet store base) a b v
 
 -- Refusals 1 to 4
 module _ (ws : Words) (c : Checked) (e : c ≡ checkedOf ws) where
-  pub sheet-refused : (store run : Words) (k j : ℕ) → c .verdict ≡ Verdicts.Refused j → k ≡ numberOf (c .verdict) → Says (fill ws store run) (Refused k) store
+  pub sheet-refused : (store run : Words) (k j : ℕ) → c .verdict ≡ Verdicts.Refused j → k ≡ verdictNumber (c .verdict) → Says (fill ws store run) (Refused k) store
   sheet-refused store run k j r q =
-      let is : k ≡ sheetRefusal ws = q ∙ ap numberOf r ∙ sym (check-refused ws c e j r) in
+      let is : k ≡ sheetRefusal ws = q ∙ ap verdictNumber r ∙ sym (check-refused ws c e j r) in
       let some : k ≡ 0 → ⊥ = (λ z. check-numbered ws c e j r (sym (check-refused ws c e j r) ∙ sym is ∙ z)) in
       says-refused (fill ws store run) k store some
       (subst (λ (k : ℕ). fill ws store run ≡ refused k store) (sym is) (fill-sheet ws store run (λ z. some (is ∙ z))))

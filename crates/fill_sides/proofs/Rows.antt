@@ -32,7 +32,7 @@ use Rattle.filling.proofs.Sides.{side-none, side-hit, side-miss, side-all}
 use Rattle.base_run.specs.Bases.{tablesOf, numbersOf, Laid}
 use Rattle.base_run.proofs.Steps.{good-of}
 use Rattle.base_qualified.specs.Qualifying.{passesNo}
-use Rattle.fill_sides.specs.Sides.{sideOf, sideRow, rowsTo, PartReady, Front}
+use Rattle.fill_sides.specs.Sides.{sideOf, sideRowNo, rowsTo, PartReady, Front}
 use Rattle.fill_sides.proofs.Numbers.{number-is, order-long, order-same, order-up}
 use Rattle.fill_sides.proofs.Counts.{passes-all}
 
@@ -47,9 +47,9 @@ picked (x ∷ columns) r (suc k) h = picked columns r k (le-of-suc-le-suc h)
 
 module _ {ws run : Words} {starts : List ℕ} (b : Laid ws run starts) {t i : ℕ} (l : t < tableCount ws) (h : i < at run t) where
   pub column-more : (s x : Words) (place : ℕ) (columns : List ℕ) (k v : ℕ) → columns ≡ shown (sheetOf ws) t → place + length columns ≤ length s
-      → k < length columns → v ≡ at (rowNo (tablesOf ws run) t i) (at columns k) → x ≡ written s place (sideRow ws run t i) k
-      → set x (place + k) v ≡ written s place (sideRow ws run t i) (k + 1)
-  unfolding sideRow
+      → k < length columns → v ≡ at (rowNo (tablesOf ws run) t i) (at columns k) → x ≡ written s place (sideRowNo ws run t i) k
+      → set x (place + k) v ≡ written s place (sideRowNo ws run t i) (k + 1)
+  unfolding sideRowNo
   column-more s x place columns k v e fits m q inv =
       let r = rowNo (tablesOf ws run) t i in
       let shows = shown (sheetOf ws) t in
@@ -151,8 +151,8 @@ module _ {ws run : Words} {starts order : List ℕ} {t : ℕ} {columns : List �
         subst (λ (rows : Rows). Front rows (length part₀) many part) (sym same) f
 
     module _ (q : passesNo ws run n t i ≡ true) where
-      more : rowsTo ws run order t (j + 1) ≡ rowsTo ws run order t j ++ (sideRow ws run t i ∷ [])
-      unfolding rowsTo sideRow
+      more : rowsTo ws run order t (j + 1) ≡ rowsTo ws run order t j ++ (sideRowNo ws run t i ∷ [])
+      unfolding rowsTo sideRowNo
       more =
           let o = numbersOf run order t in
           side-hit (sheetOf ws) (tablesOf ws run) t o j (omega (arith, long)) (sym decides ∙ q)
@@ -160,7 +160,7 @@ module _ {ws run : Words} {starts order : List ℕ} {t : ℕ} {columns : List �
           (sym number)
 
       more-long : length (rowsTo ws run order t (j + 1)) ≡ many + 1
-      more-long = ap length more ∙ length-append (rowsTo ws run order t j) (sideRow ws run t i ∷ []) ∙ omega (arith, f .many-are)
+      more-long = ap length more ∙ length-append (rowsTo ws run order t j) (sideRowNo ws run t i ∷ []) ∙ omega (arith, f .many-are)
 
       pub front-room : many * length columns + length columns ≤ length part₀
       front-room =
@@ -168,12 +168,12 @@ module _ {ws run : Words} {starts order : List ℕ} {t : ℕ} {columns : List �
           omega (arith, mul-le-mul-right (length columns) less, a .room)
 
       pub front-hit : (after : Words) → length after ≡ length part
-          → after ≡ written part (many * length columns) (sideRow ws run t i) (length columns)
+          → after ≡ written part (many * length columns) (sideRowNo ws run t i) (length columns)
           → Front (rowsTo ws run order t (j + 1)) (length part₀) (many + 1) after
-      unfolding sideRow
+      unfolding sideRowNo
       front-hit after k w =
           let rows = rowsTo ws run order t j in
-          let r = sideRow ws run t i in
+          let r = sideRowNo ws run t i in
           let same = ap length (a .columns-are) in
           let wide : Wide (length columns) rows = rw same (wide-rows j) in
           let r-wide = length-map (shown (sheetOf ws) t) (at (rowNo (tablesOf ws run) t i)) ∙ sym same in

@@ -38,12 +38,12 @@ abbrev pub SidesStand : Words → Words → ℕ → Words → Type 0
 SidesStand ws run t store = Stands (sheetOf ws) store (partlyOf ws run t)
 
 -- row i of table t as the side table shows it
-unfoldable pub sideRow : Words → Words → ℕ → ℕ → Row
-sideRow ws run t i = pick (shown (sheetOf ws) t) (rowNo (tablesOf ws run) t i)
+unfoldable pub sideRowNo : Words → Words → ℕ → ℕ → Row
+sideRowNo ws run t i = pick (shown (sheetOf ws) t) (rowNo (tablesOf ws run) t i)
 
 -- the first k words of it written over a part's words from `place` on
 abbrev pub writtenRow : Words → Words → ℕ → ℕ → Words → ℕ → ℕ → Words
-writtenRow ws run t i part place k = written part place (sideRow ws run t i) k
+writtenRow ws run t i part place k = written part place (sideRowNo ws run t i) k
 
 -- the side rows of the qualified ones among the first j rows of table t in key order
 unfoldable pub rowsTo : Words → Words → List ℕ → ℕ → ℕ → Rows

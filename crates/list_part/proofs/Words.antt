@@ -28,7 +28,7 @@ use Rattle.sheet.specs.Read.{ReadsListing}
 use Rattle.sheet.specs.Rules.{Rules}
 use Rattle.sheet.specs.declared.reading.Listing.{Listing}
 use Rattle.sheet.proofs.Words.{listed-are}
-use Rattle.list_part.specs.Gives.{gives, shows, showsAt, rowShows, rowGiven, Fits}
+use Rattle.list_part.specs.Gives.{gives, shows, showsWord, rowShows, rowGiven, Fits}
 
 -- a listed column of r's table is one of r's
 pub column-in : (ws : Words) (t : ℕ) (r : Row) (p j : ℕ) (l : Listing) → Rules ws → Fits ws t r → p ≡ listedCount ws → j < p → ReadsListing ws j l
@@ -103,12 +103,12 @@ module _ (ws : Words) (t : ℕ) (r : Row) (s : Words) (i p : ℕ) (many : p ≡ 
     unfolding gave
     gave-other = gives-other ws t r here (here-long ∙ many) j (rw many at within) l reads
 
-    pub shows-own : l .table ≡ t → at s (i * p + j) ≡ at r (l .column) → showsAt ws t r (row p i s) j ≡ true
-    unfolding showsAt here gave
+    pub shows-own : l .table ≡ t → at s (i * p + j) ≡ at r (l .column) → showsWord ws t r (row p i s) j ≡ true
+    unfolding showsWord here gave
     shows-own e v = eq-eqb _ _ (here-at j within ∙ v ∙ sym (gave-own e))
 
-    pub shows-other : (l .table ≡ t → ⊥) → showsAt ws t r (row p i s) j ≡ true
-    unfolding showsAt here gave
+    pub shows-other : (l .table ≡ t → ⊥) → showsWord ws t r (row p i s) j ≡ true
+    unfolding showsWord here gave
     shows-other d = eq-eqb _ _ (sym (gave-other d))
 
     pub shows-not : l .table ≡ t → (at s (i * p + j) ≡ at r (l .column) → ⊥) → false ≡ rowShows ws t r i s
@@ -146,8 +146,8 @@ module _ (ws : Words) (t : ℕ) (r : Row) (s : Words) (i p : ℕ) (many : p ≡ 
               rw inv (ap (at (front ++ drop m s)) e ∙ getD-append-add front (drop m s) 0 0 ∙ getD-drop m s 0 0 ∙ ap (at s) (add-zero m))
 
   -- all words are looked at
-  pub shows-end : (k : ℕ) → k ≤ p → p ≤ k → every (showsAt ws t r (row p i s)) k ≡ true → true ≡ rowShows ws t r i s
-  unfolding shows showsAt here gave
+  pub shows-end : (k : ℕ) → k ≤ p → p ≤ k → every (showsWord ws t r (row p i s)) k ≡ true → true ≡ rowShows ws t r i s
+  unfolding shows showsWord here gave
   shows-end k a b h =
       let all = every-end _ k p a b h in
       rw (← many)

@@ -23,8 +23,8 @@ unfoldable pub shows : Words → ℕ → Row → Row → Bool
 shows ws t r row = sameRow row (gives ws t r row)
 
 -- its word j does
-unfoldable pub showsAt : Words → ℕ → Row → Row → ℕ → Bool
-showsAt ws t r row j = eqb (at row j) (at (gives ws t r row) j)
+unfoldable pub showsWord : Words → ℕ → Row → Row → ℕ → Bool
+showsWord ws t r row j = eqb (at row j) (at (gives ws t r row) j)
 
 -- row i of a run of words shows them, and the words with row i given
 abbrev pub rowShows : Words → ℕ → Row → ℕ → Words → Bool

@@ -5,12 +5,13 @@ use mathlib.Core.Path.{_≡_, sym, ap, _∙_}
 use Rattle.lists.specs.Lists.{Words}
 use Rattle.meaning.specs.Answers.{Outcome}
 use Rattle.store.specs.Shows.{firstOf}
-use Rattle.oratjolet.specs.Exports.{Planned, Shown, Left}
+use Rattle.oratjolet.specs.Exports.{PlanLeft, StretchLeft, Left}
 
-pub planned-once : (sheet : Words) (k j : ℕ) (v w : Words) → Planned sheet k v → Planned sheet j w → (k ≡ j) × (v ≡ w)
+pub planned-once : (sheet : Words) (k j : ℕ) (v w : Words) → PlanLeft sheet k v → PlanLeft sheet j w → (k ≡ j) × (v ≡ w)
 planned-once sheet k j v w x y = (x .number-is ∙ sym (y .number-is), x .words-are ∙ sym (y .words-are))
 
-pub shown-once : (sheet store : Words) (part k j first from count many : ℕ) → Shown sheet store part k first count → Shown sheet store part j from many
+pub shown-once : (sheet store : Words) (part k j first from count many : ℕ)
+    → StretchLeft sheet store part k first count → StretchLeft sheet store part j from many
     → (k ≡ j) × (first ≡ from) × (count ≡ many)
 shown-once sheet store part k j first from count many x y =
     let same = x .number-is ∙ sym (y .number-is) in

@@ -17,10 +17,10 @@ use Rattle.laws.proofs.Numbers.{show-accepted}
 use Rattle.sheet_plan.specs.declared.Checked.{Checked}
 use Rattle.sheet_plan.specs.declared.Plan.{Plan}
 use Rattle.sheet_plan.specs.Plans.{checkedOf}
-use Rattle.sheet_plan.specs.Planned.{Planned}
+use Rattle.sheet_plan.specs.Planned.{IsPlan}
 use Rattle.sheet_plan.proofs.Planning.{planned}
 use Rattle.store.specs.Shows.{Gives, firstOf}
-use Rattle.oratjolet.specs.Exports.{Shown}
+use Rattle.oratjolet.specs.Exports.{StretchLeft}
 
 passed : (b : Bool) (k rest : ℕ) → unless b (suc k) rest ≡ 0 → (b ≡ true) × (rest ≡ 0)
 passed true k rest e = (refl, e)
@@ -52,7 +52,7 @@ module _ (sheet store : Words) (part : ℕ) where
 
   module _ (words : Words) (number : ℕ) (g : Gives sheet store part words number) where
     -- refused: no words, from the store's first
-    pub shown-refused : (number ≡ 0 → ⊥) → Shown sheet store part number 0 (length words)
+    pub shown-refused : (number ≡ 0 → ⊥) → StretchLeft sheet store part number 0 (length words)
     unfolding firstOf show
     shown-refused d =
         let e = ne-eqb number 0 d in
@@ -63,7 +63,7 @@ module _ (sheet store : Words) (part : ℕ) where
       zero-is : show sheet store part .number ≡ 0
       zero-is = sym (g .number-is) ∙ z
 
-      plan-is : Planned (sheetOf sheet) (c .plan)
+      plan-is : IsPlan (sheetOf sheet) (c .plan)
       plan-is = rw e (planned sheet (accepted zero-is .0))
 
       pub part-in : part < 9
@@ -72,8 +72,15 @@ module _ (sheet store : Words) (part : ℕ) where
       start-is : getD (c .plan .starts) part 0 ≡ start (sheetOf sheet) part
       start-is = plan-is .starts-at part (omega (arith, accepted zero-is .1))
 
-      pub shown-rows : Shown sheet store part 0 (getD (c .plan .starts) part 0) (length words)
+      pub shown-rows : StretchLeft sheet store part 0 (getD (c .plan .starts) part 0) (length words)
       unfolding firstOf show stretchOf
       shown-rows =
           let q : show sheet store part .words ≡ stretchOf (sheetOf sheet) store part = show-accepted sheet store part zero-is in
-          record { number-is = sym zero-is; first-is = start-is; count-is = ap length (g .words-are); words-are = rw (g .words-are, q, start-is) (take-again (count (sheetOf sheet) store part * columns (sheetOf sheet) part) (drop (start (sheetOf sheet) part) store)) }
+          record {
+            number-is = sym zero-is;
+            first-is = start-is;
+            count-is = ap length (g .words-are);
+            words-are =
+                let s = sheetOf sheet in
+                rw (g .words-are, q, start-is) (take-again (count s store part * columns s part) (drop (start s part) store));
+          }

@@ -11,19 +11,19 @@ use Rattle.meaning.specs.Answers.{Outcome}
 use Rattle.store.specs.declared.Answer.{Answer}
 use Rattle.store.specs.Answers.{numberOf, takenOf, addedOf}
 use Rattle.store.specs.Shows.{firstOf}
-use Rattle.plan_answer.specs.Answers.{laid}
+use Rattle.plan_answer.specs.Answers.{answerOf}
 use Rattle.plan_answer.specs.declared.PlanAnswer.{PlanAnswer}
 
 -- The plan call's 220 words: number, tables, root, store length, then eight marks, three times 64 marks, eight places, eight rooms
 unfoldable pub planWords : PlanAnswer → Words
 planWords a = (a .number ∷ a .tables ∷ a .root ∷ a .store ∷ []) ++ a .kept ++ (a .columns ++ a .dep ++ a .need) ++ (a .starts ++ a .rooms)
 
-pub record Planned (sheet : Words) (number : ℕ) (answer : Words) : Type 0 where
+pub record PlanLeft (sheet : Words) (number : ℕ) (answer : Words) : Type 0 where
   pub number-is : number ≡ plan sheet .number
-  pub words-are : answer ≡ planWords (laid (plan sheet))
+  pub words-are : answer ≡ planWords (answerOf (plan sheet))
 
 -- The show call: the stretch of the store that it names is the one that document 01 hands back
-pub record Shown (sheet store : Words) (part number first count : ℕ) : Type 0 where
+pub record StretchLeft (sheet store : Words) (part number first count : ℕ) : Type 0 where
   pub number-is : number ≡ show sheet store part .number
   pub first-is : first ≡ firstOf sheet part number
   pub count-is : count ≡ length (show sheet store part .words)

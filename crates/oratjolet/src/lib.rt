@@ -10,8 +10,8 @@ ghost use lib.ListN.{length};
 ghost use Rattle.meaning.specs.Change.{change};
 ghost use Rattle.meaning.specs.Fill.{fill};
 ghost use Rattle.meaning.specs.Base.{changeOf};
-ghost use Rattle.text.specs.Writing.{Wrote};
-ghost use Rattle.oratjolet.specs.Exports.{planWords, Planned, Shown, Told, Left};
+ghost use Rattle.text.specs.Writing.{PutAt};
+ghost use Rattle.oratjolet.specs.Exports.{planWords, PlanLeft, StretchLeft, Told, Left};
 
 // What the plan call answers: four numbers, a mark for each table, three sets of marks, and where each table's part begins and its room.
 const PLAN_WORDS: usize = 4 + TABLES + 3 * PLACES + 2 * TABLES;
@@ -19,7 +19,7 @@ const PLAN_WORDS: usize = 4 + TABLES + 3 * PLACES + 2 * TABLES;
 // Writes the words from `at` on, and answers where they end.
 fn put(words: &[u64], out: &mut [u64], at: usize) -> usize
     requires { ⌜ at + length (now words) ≤ length (now out) ⌝ }
-    ensures { λ r. ⌜ Wrote (now (out .entry)) at (now (words .entry)) (now (out .exit)) r ⌝ }
+    ensures { λ r. ⌜ PutAt (now (out .entry)) at (now (words .entry)) (now (out .exit)) r ⌝ }
 {
     let mut i = 0;
     while i < words.len() {
@@ -32,7 +32,7 @@ fn put(words: &[u64], out: &mut [u64], at: usize) -> usize
 // The same for a number of each table that code holds as a place or a length.
 fn put_places(places: &[usize], out: &mut [u64], at: usize) -> usize
     requires { ⌜ at + length (now places) ≤ length (now out) ⌝ }
-    ensures { λ r. ⌜ Wrote (now (out .entry)) at (now (places .entry)) (now (out .exit)) r ⌝ }
+    ensures { λ r. ⌜ PutAt (now (out .entry)) at (now (places .entry)) (now (out .exit)) r ⌝ }
 {
     let mut i = 0;
     while i < places.len() {
@@ -51,7 +51,7 @@ fn put_sets(
     at: usize,
 ) -> usize
     requires { ⌜ at + 192 ≤ length (now out) ⌝ }
-    ensures { λ r. ⌜ Wrote (now (out .entry)) at (columns ++ dep ++ need) (now (out .exit)) r ⌝ }
+    ensures { λ r. ⌜ PutAt (now (out .entry)) at (columns ++ dep ++ need) (now (out .exit)) r ⌝ }
     ensures { λ r. ⌜ r ≡ at + 192 ⌝ }
 {
     let a = put(&columns, out, at);
@@ -62,7 +62,7 @@ fn put_sets(
 // Writes the numbers of each table: where its part of the store begins, and its room.
 fn put_parts(starts: [usize; TABLES], rooms: [usize; TABLES], out: &mut [u64], at: usize) -> usize
     requires { ⌜ at + 16 ≤ length (now out) ⌝ }
-    ensures { λ r. ⌜ Wrote (now (out .entry)) at (starts ++ rooms) (now (out .exit)) r ⌝ }
+    ensures { λ r. ⌜ PutAt (now (out .entry)) at (starts ++ rooms) (now (out .exit)) r ⌝ }
     ensures { λ r. ⌜ r ≡ at + 16 ⌝ }
 {
     let a = put_places(&starts, out, at);
@@ -72,7 +72,7 @@ fn put_parts(starts: [usize; TABLES], rooms: [usize; TABLES], out: &mut [u64], a
 // Writes the plan call's answer field by field.
 fn put_plan(a: PlanAnswer, out: &mut [u64]) -> usize
     requires { ⌜ length (now out) ≡ 220 ⌝ }
-    ensures { λ r. ⌜ Wrote (now (out .entry)) 0 (planWords a) (now (out .exit)) r ⌝ }
+    ensures { λ r. ⌜ PutAt (now (out .entry)) 0 (planWords a) (now (out .exit)) r ⌝ }
     ensures { λ r. ⌜ r ≡ 220 ⌝ }
 {
     let head = [a.number, a.tables as u64, a.root as u64, a.store as u64];
@@ -91,7 +91,7 @@ fn put_plan(a: PlanAnswer, out: &mut [u64]) -> usize
 // The plan call: its number, and the whole answer in the lent words.
 #[no_mangle]
 pub extern "C" fn oratjolet_plan(sheet: &[u64], answer: &mut [u64; PLAN_WORDS]) -> u64
-    ensures { λ k. ⌜ Planned (now (sheet .entry)) k (now (answer .exit)) ⌝ }
+    ensures { λ k. ⌜ PlanLeft (now (sheet .entry)) k (now (answer .exit)) ⌝ }
 {
     let a = plan_answer::plan_of(sheet);
     put_plan(a, answer);
@@ -107,7 +107,7 @@ pub extern "C" fn oratjolet_show(
     first: &mut u64,
     count: &mut u64,
 ) -> u64
-    ensures { λ k. ⌜ Shown (now (sheet .entry)) (now (store .entry)) number k (now (first .exit)) (now (count .exit)) ⌝ }
+    ensures { λ k. ⌜ StretchLeft (now (sheet .entry)) (now (store .entry)) number k (now (first .exit)) (now (count .exit)) ⌝ }
 {
     let mut refusal: u64 = 0;
     let words = store::show(sheet, store, number, &mut refusal);
@@ -166,7 +166,8 @@ pub extern "C" fn oratjolet_change(
     taken: &mut u64,
     added: &mut u64,
 ) -> u64
-    ensures { λ k. ⌜ Left (change (now (sheet .entry)) (now (store .entry)) (changeOf kind table (now (old .entry)) (now (new .entry)))) k (now (taken .exit)) (now (added .exit)) (now (store .exit)) ⌝ }
+    ensures { λ k. ⌜ Left (change (now (sheet .entry)) (now (store .entry)) (changeOf kind table (now (old .entry)) (now (new .entry))))
+        k (now (taken .exit)) (now (added .exit)) (now (store .exit)) ⌝ }
 {
     let a = change::change(sheet, store, kind, table, old, new);
     tell(a, taken, added)

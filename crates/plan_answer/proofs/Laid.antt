@@ -25,7 +25,7 @@ use Rattle.laws.proofs.Trees.{child-of}
 use Rattle.derive.proofs.Paths.{dep-edge}
 use Rattle.sheet.proofs.Numbers.{member-chosen}
 use Rattle.sheet_plan.specs.Plans.{keptOf, keptAt, showsAt, showsOf, startsOf, roomsOf, planFor, checkedOf}
-use Rattle.sheet_plan.specs.Planned.{Lengths, Planned}
+use Rattle.sheet_plan.specs.Planned.{Lengths, IsPlan}
 use Rattle.sheet_plan.proofs.Chosen.{filled-same}
 use Rattle.sheet_plan.proofs.Shown.{has-column}
 use Rattle.sheet_plan.proofs.Planning.{plan-facts, good-plan, planned}
@@ -35,7 +35,7 @@ use Rattle.sheet.specs.Verdicts.{verdictOf}
 use Rattle.sheet.specs.declared.Verdict.the-variants.{Good, Refused}
 use Rattle.sheet_plan.specs.declared.Checked.{Checked}
 use Rattle.sheet_plan.specs.declared.Plan.{Plan}
-use Rattle.plan_answer.specs.Answers.{noTable, tableNo, setsOf, numbersOf, laid, depAt, depOf, needAt, needOf}
+use Rattle.plan_answer.specs.Answers.{noTable, tableNo, setsOf, perTable, answerOf, depAt, depOf, needAt, needOf}
 use Rattle.plan_answer.specs.Answers.{keptColumn, keptColumns, firstParts, answerFor, refusedAnswer}
 use Rattle.plan_answer.specs.declared.PlanAnswer.{PlanAnswer}
 
@@ -93,7 +93,7 @@ by-table n f g k d there gone = filled-same f g k d (λ i l. go i l (ltb (i / 8)
     go i l true e = there i l (ltb-true (i / 8) n e)
     go i l false e = gone i l (ltb-false (i / 8) n e)
 
-module _ (s : Sheet) (facts : Planned s (planFor s)) (good : Sheets.Good s) where
+module _ (s : Sheet) (facts : IsPlan s (planFor s)) (good : Sheets.Good s) where
   -- the mark of a column that is shown if the table is kept
   column-mark : (b d : Bool) (xs : List ℕ) (c : ℕ) → member c xs ≡ d → cond (eqb (one b) 1) (one d) 0 ≡ one (member c (cond b xs []))
   column-mark true d xs c e = ap one (sym e)
@@ -138,26 +138,26 @@ module _ (s : Sheet) (facts : Planned s (planFor s)) (good : Sheets.Good s) wher
 
   -- a number for each table
   numbers-laid : (f : ℕ → ℕ) (field : TablePlan → ℕ) → ((t : ℕ) → t < s .n → f t ≡ field (tablePlan s t))
-      → filled f (s .n) (replicate 8 0) ≡ numbersOf (λ t. field (tableNo (goodPlan s) t)) (length (goodPlan s .tables))
-  unfolding numbersOf
+      → filled f (s .n) (replicate 8 0) ≡ perTable (λ t. field (tableNo (goodPlan s) t)) (length (goodPlan s .tables))
+  unfolding perTable
   numbers-laid f field h =
       filled-same f (λ t. field (tableNo (goodPlan s) t)) (s .n) (replicate 8 0) (λ t l. h t l ∙ ap field (sym (table-in s t l)))
       ∙ ap (λ (n : ℕ). filled (λ t. field (tableNo (goodPlan s) t)) n (replicate 8 0)) (sym (tables-many s))
 
-  kept-laid : keptOf s ≡ numbersOf (λ t. tableNo (goodPlan s) t .kept) (length (goodPlan s .tables))
+  kept-laid : keptOf s ≡ perTable (λ t. tableNo (goodPlan s) t .kept) (length (goodPlan s .tables))
   unfolding keptOf keptAt tablePlan
   kept-laid = numbers-laid (keptAt s) (λ p. p .kept) (λ t l. refl)
 
-  starts-laid : firstParts (startsOf s) (s .n) ≡ numbersOf (λ t. tableNo (goodPlan s) t .start) (length (goodPlan s .tables))
+  starts-laid : firstParts (startsOf s) (s .n) ≡ perTable (λ t. tableNo (goodPlan s) t .start) (length (goodPlan s .tables))
   unfolding firstParts planFor tablePlan
   starts-laid = numbers-laid (λ t. getD (startsOf s) t 0) (λ p. p .start) (λ t l. facts .starts-at t (omega arith))
 
-  rooms-laid : firstParts (roomsOf s) (s .n) ≡ numbersOf (λ t. tableNo (goodPlan s) t .room) (length (goodPlan s .tables))
+  rooms-laid : firstParts (roomsOf s) (s .n) ≡ perTable (λ t. tableNo (goodPlan s) t .room) (length (goodPlan s .tables))
   unfolding firstParts planFor tablePlan
   rooms-laid = numbers-laid (λ t. getD (roomsOf s) t 0) (λ p. p .room) (λ t l. facts .rooms-at t (omega arith))
 
-  pub plan-laid : ((t c : ℕ) → hasColumn s t c ≡ ltb c (width s t)) → answerFor (planFor s) (depOf s) (needOf s) ≡ laid (goodPlan s)
-  unfolding answerFor planFor laid goodPlan
+  pub plan-laid : ((t c : ℕ) → hasColumn s t c ≡ ltb c (width s t)) → answerFor (planFor s) (depOf s) (needOf s) ≡ answerOf (goodPlan s)
+  unfolding answerFor planFor answerOf goodPlan
   plan-laid has =
       let a = columns-laid has in
       let b = dep-laid in
@@ -169,14 +169,14 @@ module _ (s : Sheet) (facts : Planned s (planFor s)) (good : Sheets.Good s) wher
       cc
 
 -- the two outcomes of the plan call
-pub answer-good : (ws : Words) → sheetRefusal ws ≡ 0 → answerFor (checkedOf ws .plan) (depOf (sheetOf ws)) (needOf (sheetOf ws)) ≡ laid (plan ws)
+pub answer-good : (ws : Words) → sheetRefusal ws ≡ 0 → answerFor (checkedOf ws .plan) (depOf (sheetOf ws)) (needOf (sheetOf ws)) ≡ answerOf (plan ws)
 unfolding plan
 answer-good ws h =
     ap (λ (p : Plan). answerFor p (depOf (sheetOf ws)) (needOf (sheetOf ws))) (good-plan ws h)
     ∙ plan-laid (sheetOf ws) (plan-facts ws (good-sheet ws h)) (SheetLaws.good-sheet ws h) (has-column ws (good-rules ws h)) ∙ sym (rw h)
 
-pub answer-refused : (ws : Words) (k : ℕ) → sheetRefusal ws ≡ k → (k ≡ 0 → ⊥) → refusedAnswer k ≡ laid (plan ws)
-unfolding plan laid numbersOf setsOf filled
+pub answer-refused : (ws : Words) (k : ℕ) → sheetRefusal ws ≡ k → (k ≡ 0 → ⊥) → refusedAnswer k ≡ answerOf (plan ws)
+unfolding plan answerOf perTable setsOf filled
 answer-refused ws k e n = rw (ne-eqb (sheetRefusal ws) 0 (λ q. n (sym e ∙ q)), e)
 
 -- the same, of what the check hands out
@@ -185,7 +185,7 @@ module _ (ws : Words) (r : Checked) (e : r ≡ checkedOf ws) where
   unfolding checkedOf
   verdict-is = ap (λ (c : Checked). c .verdict) e
 
-  pub plan-refused : (k : ℕ) (a : PlanAnswer) → r .verdict ≡ Refused k → a ≡ refusedAnswer k → a ≡ laid (plan ws)
+  pub plan-refused : (k : ℕ) (a : PlanAnswer) → r .verdict ≡ Refused k → a ≡ refusedAnswer k → a ≡ answerOf (plan ws)
   plan-refused k a v q = let x = refused-is ws k (sym verdict-is ∙ v) in q ∙ answer-refused ws k (x .0) (x .1)
 
   module _ (v : r .verdict ≡ Good) where
@@ -196,11 +196,11 @@ module _ (ws : Words) (r : Checked) (e : r ≡ checkedOf ws) where
     sheet-good = good-sheet ws not-refused
 
     pub plan-good : (a : PlanAnswer) (deps needs : List ℕ) → deps ≡ depOf (sheetOf ws) → needs ≡ needOf (sheetOf ws)
-        → a ≡ answerFor (r .plan) deps needs → a ≡ laid (plan ws)
+        → a ≡ answerFor (r .plan) deps needs → a ≡ answerOf (plan ws)
     plan-good a deps needs d n q = rw (e, d, n) at q ∙ answer-good ws not-refused
 
-    facts : Planned (sheetOf ws) (r .plan)
-    facts = subst (λ (p : Plan). Planned (sheetOf ws) p) (sym (ap (λ (c : Checked). c .plan) e)) (planned ws not-refused)
+    facts : IsPlan (sheetOf ws) (r .plan)
+    facts = subst (λ (p : Plan). IsPlan (sheetOf ws) p) (sym (ap (λ (c : Checked). c .plan) e)) (planned ws not-refused)
 
     -- what the answer is made from: at most eight tables, and arrays that are long enough
     pub answerable : (r .plan .tables ≤ 8) × Lengths (r .plan)

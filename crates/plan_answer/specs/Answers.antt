@@ -26,22 +26,22 @@ unfoldable pub setsOf : (ℕ → List ℕ) → List ℕ
 setsOf f = filled (λ i. one (member (i % 8) (f (i / 8)))) 64 (replicate 64 0)
 
 -- a number for each table
-unfoldable pub numbersOf : (ℕ → ℕ) → ℕ → List ℕ
-numbersOf f n = filled f n (replicate 8 0)
+unfoldable pub perTable : (ℕ → ℕ) → ℕ → List ℕ
+perTable f n = filled f n (replicate 8 0)
 
-unfoldable pub laid : Meant.Plan → PlanAnswer
-laid p =
+unfoldable pub answerOf : Meant.Plan → PlanAnswer
+answerOf p =
     record {
       number = p .number;
       tables = length (p .tables);
       root = p .root;
       store = p .store;
-      kept = numbersOf (λ t. tableNo p t .kept) (length (p .tables));
+      kept = perTable (λ t. tableNo p t .kept) (length (p .tables));
       columns = setsOf (λ t. tableNo p t .columns);
       dep = setsOf (λ t. tableNo p t .dep);
       need = setsOf (λ t. tableNo p t .need);
-      starts = numbersOf (λ t. tableNo p t .start) (length (p .tables));
-      rooms = numbersOf (λ t. tableNo p t .room) (length (p .tables));
+      starts = perTable (λ t. tableNo p t .start) (length (p .tables));
+      rooms = perTable (λ t. tableNo p t .room) (length (p .tables));
     }
 
 -- Dep and Need as marks: place i speaks of table i / 8 and of the table i % 8

@@ -13,7 +13,7 @@ ghost use Rattle.meaning.specs.Plan.{plan};
 ghost use Rattle.meaning.specs.Sheet.{sheetOf};
 ghost use Rattle.sheet.specs.Tree.{GoodSheet};
 ghost use Rattle.sheet_plan.specs.Planned.{Lengths};
-ghost use Rattle.plan_answer.specs.Answers.{depOf, needAt, needOf, keptColumn, keptColumns, firstParts, answerFor, refusedAnswer, laid};
+ghost use Rattle.plan_answer.specs.Answers.{depOf, needAt, needOf, keptColumn, keptColumns, firstParts, answerFor, refusedAnswer, answerOf};
 
 // What is printed of the plan, with each table's place and room. Every other field is zero where the sheet is refused.
 pub struct PlanAnswer {
@@ -157,7 +157,7 @@ fn refused_answer(number: u64) -> PlanAnswer
 
 // The plan call.
 pub fn plan_of(sheet: &[u64]) -> PlanAnswer
-    ensures { λ a. ⌜ a ≡ laid (plan (now (sheet .entry))) ⌝ }
+    ensures { λ a. ⌜ a ≡ answerOf (plan (now (sheet .entry))) ⌝ }
 {
     let c = sheet_plan::check(sheet);
     let v = c.verdict;

@@ -13,7 +13,7 @@ ghost use lib.ListN.{length, replicate};
 ghost use Rattle.rows.specs.Rows.{cut};
 ghost use Rattle.rows.specs.Regions.{Region};
 ghost use Rattle.rows.specs.Marks.{Tallied};
-ghost use Rattle.key_order.specs.Orders.{Ordered};
+ghost use Rattle.key_order.specs.Orders.{InKeyOrder};
 
 // A barcode, the one that differs from it in the upper 32 bits alone, that difference, and the greatest word.
 const CODE: u64 = 31234000000001;
@@ -216,14 +216,14 @@ fn narrow(loose: usize) {
 // The place of key k in order; 99 if it is missing.
 fn look(words: &[u64], order: &[u16], k: u64)
     requires { ⌜ length (now order) * 2 ≤ length (now words) ⌝ }
-    requires { ⌜ Ordered (now words) 2 (now order) ⌝ }
+    requires { ⌜ InKeyOrder (now words) 2 (now order) ⌝ }
 {
     word(number(find_in_order(words, 2, order, k)));
 }
 
 fn look_up(words: &[u64], order: &[u16])
     requires { ⌜ length (now order) * 2 ≤ length (now words) ⌝ }
-    requires { ⌜ Ordered (now words) 2 (now order) ⌝ }
+    requires { ⌜ InKeyOrder (now words) 2 (now order) ⌝ }
 {
     look(words, order, TWIN);
     look(words, order, CODE);

@@ -22,15 +22,16 @@ use Rattle.store.specs.Answers.{Says}
 use Rattle.oratjolet.specs.Exports.{Left}
 use Rattle.laws.proofs.Numbers.{plan-number}
 use Rattle.plan_answer.specs.declared.PlanAnswer.{PlanAnswer}
-use Rattle.plan_answer.specs.Answers.{tableNo, laid}
+use Rattle.plan_answer.specs.Answers.{tableNo, answerOf}
 use Rattle.plan_answer.proofs.Laid.{table-in, tables-many}
-use Rattle.plan_answer.proofs.Sets.{plan-told}
+use Rattle.plan_answer.proofs.Sets.{plan-read-back}
 use Rattle.upkeep.proofs.First.{demand1}
 use Rattle.upkeep.proofs.Second.{demand2}
 use Rattle.upkeep.proofs.Third.{demand3}
 use Rattle.running.proofs.Texts.{prints}
-use Rattle.running.specs.Calls.{outcomeOf, PlanCall, ShowCall, FillCall, ChangeCall, Ran, changed, filled, showed, plannedSheet, Answers}
-use Rattle.running.specs.Running.{AnsweredPlan, Line, DerivedPlan, tablesAfter, Kept, AllKept, Follow, Running1, Running2, Running3}
+use Rattle.running.specs.Calls.{outcomeOf, PlanCall, ShowCall, FillCall, ChangeCall, Ran, changeRan, fillRan, showRan, plannedSheet, Answers}
+use Rattle.running.specs.Running.{AnsweredPlan, DerivedTable, DerivedPlan, tablesAfter, RightChange, AllRightChanges, Follow}
+use Rattle.running.specs.Running.{Running1, Running2, Running3}
 
 -- a call ran as the definition says
 abbrev As : {A O : Type 0} → (Words → Words → A → O) → Ran A O → Type 0
@@ -44,26 +45,26 @@ left : (o : Outcome) (number taken added : ℕ) (exit : Words) → Left o number
 left o number taken added exit h =
     λ i. record { number = sym (h .number-is) i; taken = sym (h .taken-is) i; added = sym (h .added-is) i; words = sym (h .words-are) i }
 
-pub as-change : (k : ChangeCall) → As change (changed k)
+pub as-change : (k : ChangeCall) → As change (changeRan k)
 as-change (inl k) = said _ _ _ (k .promise)
 as-change (inr k) = left _ _ _ _ _ (k .promise)
 
-pub as-fill : (k : FillCall) → As fill (filled k)
+pub as-fill : (k : FillCall) → As fill (fillRan k)
 as-fill (inl k) = said _ _ _ (k .promise)
 as-fill (inr k) = left _ _ _ _ _ (k .promise)
 
-pub as-show : (k : ShowCall) → As show (showed k)
+pub as-show : (k : ShowCall) → As show (showRan k)
 as-show (inl k) = let h = k .promise .gives in λ i. record { number = sym (h .number-is) i; words = sym (h .words-are) i }
 as-show (inr k) = let h = k .promise in λ i. record { number = sym (h .number-is) i; words = sym (h .words-are) i }
 
-pub as-plan : (k : PlanCall) → Answers k (laid (plan (plannedSheet k)))
-unfolding laid
+pub as-plan : (k : PlanCall) → Answers k (answerOf (plan (plannedSheet k)))
+unfolding answerOf
 as-plan (inl k) = k .promise
 as-plan (inr k) = (k .promise .number-is, k .promise .words-are)
 
-answered-plan : (sheet : Words) → AnsweredPlan sheet (laid (plan sheet))
-unfolding laid
-answered-plan sheet = record { number = demand1 .plans sheet .number; fields = λ d. ap laid (demand1 .plans sheet .fields d) }
+answered-plan : (sheet : Words) → AnsweredPlan sheet (answerOf (plan sheet))
+unfolding answerOf
+answered-plan sheet = record { number = demand1 .plans sheet .number; fields = λ d. ap answerOf (demand1 .plans sheet .fields d) }
 
 pub running1 : Running1
 running1 =
@@ -77,17 +78,17 @@ running1 =
           };
       texts-take-any = (λ κs a. tt, λ κs a. tt, λ κs a. tt);
       changes = λ k.
-          let r = changed k in
+          let r = changeRan k in
           subst (λ (o : Outcome). Answered (changeTests (r .sheet) (r .store) (r .asked)) (r .store) o) (as-change k)
           (demand1 .changes (r .sheet) (r .store) (r .asked));
       fills = λ k.
-          let r = filled k in
+          let r = fillRan k in
           subst (λ (o : Outcome). Answered (fillTests (r .sheet) (r .store) (r .asked)) (r .store) o) (as-fill k)
           (demand1 .fills (r .sheet) (r .store) (r .asked));
       shows = λ k.
-          let r = showed k in
+          let r = showRan k in
           subst (λ (o : Stretch). Shown (showTests (r .sheet) (r .store) (r .asked)) o) (as-show k) (demand1 .shows (r .sheet) (r .store) (r .asked));
-      plans = λ k. (laid (plan (plannedSheet k)), as-plan k, answered-plan (plannedSheet k));
+      plans = λ k. (answerOf (plan (plannedSheet k)), as-plan k, answered-plan (plannedSheet k));
     }
 
 -- the plan of a good sheet
@@ -99,10 +100,10 @@ module _ (sheet : Words) (good : sheetRefusal sheet ≡ 0) where
   many : length (plan sheet .tables) ≡ sheetOf sheet .n
   many = ap (λ (p : Plan). length (p .tables)) is-good ∙ tables-many (sheetOf sheet)
 
-  line-of : (t : ℕ) → t < sheetOf sheet .n → Line (sheetOf sheet) (laid (plan sheet)) t
+  table-derived : (t : ℕ) → t < sheetOf sheet .n → DerivedTable (sheetOf sheet) (answerOf (plan sheet)) t
   unfolding tablePlan
-  line-of t h =
-      let told = plan-told sheet t (omega (arith, many)) in
+  table-derived t h =
+      let told = plan-read-back sheet t (omega (arith, many)) in
       let is : tableNo (plan sheet) t ≡ tablePlan (sheetOf sheet) t = ap (λ (p : Plan). tableNo p t) is-good ∙ table-in (sheetOf sheet) t h in
       record {
         kept-is = told .kept-is ∙ ap (λ (p : TablePlan). p .kept) is;
@@ -111,26 +112,26 @@ module _ (sheet : Words) (good : sheetRefusal sheet ≡ 0) where
         need-is = told .need-is ∙ ap (λ (p : TablePlan). p .need) is;
       }
 
-  derived-plan : DerivedPlan (sheetOf sheet) (laid (plan sheet))
-  unfolding laid
-  derived-plan = record { derived = demand2 .derived sheet good; tables = many; lines = line-of }
+  derived-plan : DerivedPlan (sheetOf sheet) (answerOf (plan sheet))
+  unfolding answerOf
+  derived-plan = record { derived = demand2 .derived sheet good; tables = many; each-table = table-derived }
 
-good-if : (sheet : Words) → laid (plan sheet) .number ≡ 0 → sheetRefusal sheet ≡ 0
-unfolding laid
+good-if : (sheet : Words) → answerOf (plan sheet) .number ≡ 0 → sheetRefusal sheet ≡ 0
+unfolding answerOf
 good-if sheet e = sym (plan-number sheet) ∙ e
 
 pub running2 : Running2
 running2 =
     record {
-      plans = λ k. let sheet = plannedSheet k in (laid (plan sheet), as-plan k, λ e. derived-plan sheet (good-if sheet e));
+      plans = λ k. let sheet = plannedSheet k in (answerOf (plan sheet), as-plan k, λ e. derived-plan sheet (good-if sheet e));
       prints = prints;
       fills = λ k good long lawful room.
-          let r = filled k in
+          let r = fillRan k in
           subst (λ (o : Outcome). Filled (r .sheet) (r .asked) o) (as-fill k) (demand2 .fills (r .sheet) (r .store) (r .asked) good long lawful room);
     }
 
 -- one call
-kept : (sheet : Words) (base : Tables) (store : Words) (c : Change) → Right sheet base store c → Kept sheet base c (change sheet store c)
+kept : (sheet : Words) (base : Tables) (store : Words) (c : Change) → Right sheet base store c → RightChange sheet base c (change sheet store c)
 unfolding tablesAfter baseAfter
 kept sheet base store c h = record { words = h .words; taken = h .taken; added = h .added; only-room = h .only-room }
 
@@ -140,16 +141,16 @@ unfolding tablesAfter baseAfter
 after-same sheet base store c o e = ap (λ (o : Outcome). tablesAfter base c (o .number)) e
 
 asks : List ChangeCall → List Change
-asks calls = map (λ (k : ChangeCall). changed k .asked) calls
+asks calls = map (λ (k : ChangeCall). changeRan k .asked) calls
 
 -- a sequence of them
 all-kept : (sheet : Words) (calls : List ChangeCall) (base : Tables) (store : Words) → Follow sheet store calls → AllRight sheet base store (asks calls)
-    → AllKept sheet base calls
+    → AllRightChanges sheet base calls
 unfolding asks
 all-kept sheet [] base store follow right = tt
 all-kept sheet (k ∷ ks) base store (on-sheet, on-store, follow) right =
     λ lawful-if.
-    let r = changed k in
+    let r = changeRan k in
     let c = r .asked in
     let is : change sheet store c ≡ r .outcome = ap₂ (λ (x y : Words). change x y c) (sym on-sheet) (sym on-store) ∙ as-change k in
     let both = right (λ e. lawful-if (sym (ap (λ (o : Outcome). o .number) is) ∙ e)) in
@@ -157,7 +158,7 @@ all-kept sheet (k ∷ ks) base store (on-sheet, on-store, follow) right =
     let later : AllRight sheet after (r .outcome .words) (asks ks) =
     subst (λ (o : Outcome). AllRight sheet after (o .words) (asks ks)) is
     (subst (λ (b : Tables). AllRight sheet b (change sheet store c .words) (asks ks)) (after-same sheet base store c (r .outcome) is) (both .1)) in (
-      subst (λ (o : Outcome). Kept sheet base c o) is (kept sheet base store c (both .0)),
+      subst (λ (o : Outcome). RightChange sheet base c o) is (kept sheet base store c (both .0)),
       all-kept sheet ks after (r .outcome .words) follow later,
     )
 
@@ -165,12 +166,12 @@ pub running3 : Running3
 running3 =
     record {
       right = λ f done calls follow.
-          let r = filled f in
+          let r = fillRan f in
           let is = as-fill f in
           all-kept (r .sheet) calls (baseOf (sheetOf (r .sheet)) (r .asked)) (r .outcome .words) follow
           (subst (λ (o : Outcome). AllRight (r .sheet) (baseOf (sheetOf (r .sheet)) (r .asked)) (o .words) (asks calls)) is
           (demand3 .right (r .sheet) (r .store) (r .asked) (ap (λ (o : Outcome). o .number) is ∙ done) (asks calls)));
       others-stay = λ k t l d.
-          let r = changed k in
+          let r = changeRan k in
           ap (λ (o : Outcome). rowsAt (sheetOf (r .sheet)) (o .words) t) (sym (as-change k)) ∙ demand3 .others-stay (r .sheet) (r .store) (r .asked) t l d;
     }

@@ -12,7 +12,7 @@ use Rattle.meaning.specs.Plan.{TablePlan, Plan, tablePlan, goodPlan, noPlan, pl
 use Rattle.text.specs.Reading.{Text, Reading, says, isnt, readText}
 use Rattle.text.specs.Printing.{tableText, tablesText, refusedText, planText}
 use Rattle.text.specs.Readers.{fresh, afterBytes, afterChunks}
-use Rattle.text.specs.Outcomes.{planFor, planOfText, printed, replyTo}
+use Rattle.text.specs.Outcomes.{planOfReading, planOfText, printed, replyTo}
 use Rattle.text.specs.declared.reading.Reader.{Reader}
 use Rattle.text.proofs.Answers.{chunks-reply}
 use Rattle.running.specs.Texts.{NewCall, ChunkCall, ReplyCall, Read, chunkOf, textOf, Wrote-out, derivedText, Printed}
@@ -41,11 +41,12 @@ refused-text sheet d = rw (ne-eqb (sheetRefusal sheet) 0 d, ne-eqb (sheetRefusal
 pub prints : (n : NewCall) (ks : List ChunkCall) (end : ReplyCall) → Read (n .result) ks end → Printed (textOf ks) end
 unfolding printed planOfText refusedText planText
 prints n ks end h =
-    let read : end .args .0 ≡ afterChunks fresh (map chunkOf ks) = reader-is (n .result) ks end h ∙ ap (λ (q : Reader). afterChunks q (map chunkOf ks)) (n .promise) in
-    let is : replyTo (end .args .0) ≡ planText (planFor (readText (textOf ks))) = ap replyTo read ∙ chunks-reply (map chunkOf ks) in
-    let out : Wrote-out end (planText (planFor (readText (textOf ks)))) = subst (Wrote-out end) is (end .promise .0) in
+    let read : end .args .0 ≡ afterChunks fresh (map chunkOf ks) =
+    reader-is (n .result) ks end h ∙ ap (λ (q : Reader). afterChunks q (map chunkOf ks)) (n .promise) in
+    let is : replyTo (end .args .0) ≡ planText (planOfReading (readText (textOf ks))) = ap replyTo read ∙ chunks-reply (map chunkOf ks) in
+    let out : Wrote-out end (planText (planOfReading (readText (textOf ks)))) = subst (Wrote-out end) is (end .promise .0) in
     record {
-      unread = λ e. subst (λ (x : Reading). Wrote-out end (planText (planFor x))) e out;
-      refused = λ sheet e d. subst (Wrote-out end) (ap (λ (x : Reading). planText (planFor x)) e ∙ refused-text sheet d) out;
-      plan = λ sheet e z. subst (Wrote-out end) (ap (λ (x : Reading). planText (planFor x)) e ∙ good-text sheet z) out;
+      unread = λ e. subst (λ (x : Reading). Wrote-out end (planText (planOfReading x))) e out;
+      refused = λ sheet e d. subst (Wrote-out end) (ap (λ (x : Reading). planText (planOfReading x)) e ∙ refused-text sheet d) out;
+      plan = λ sheet e z. subst (Wrote-out end) (ap (λ (x : Reading). planText (planOfReading x)) e ∙ good-text sheet z) out;
     }

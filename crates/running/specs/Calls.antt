@@ -34,8 +34,11 @@ use Rattle.oratjolet.proofs.oratjolet_fill.Reads as fill-out-reads
 use Rattle.oratjolet.proofs.oratjolet_change as change-out
 use Rattle.oratjolet.proofs.oratjolet_change.Reads as change-out-reads
 
--- a call of one function: the values passed, the result, the parameters at exit, and what a caller learns of them
-pub record Met (T : Ended) (learnt : (κs : Lfts (T .signature .lifetimes)) → ArgsD (T .signature) κs → ResD (T .signature) κs → AtExit T κs → Type 0) : Type 0 where
+-- what a caller learns of a call, and a call of one function: the values passed, the result, the parameters at exit, and that
+abbrev pub ToLearn : Ended → Type 1
+ToLearn T = (κs : Lfts (T .signature .lifetimes)) → ArgsD (T .signature) κs → ResD (T .signature) κs → AtExit T κs → Type 0
+
+pub record Met (T : Ended) (learnt : ToLearn T) : Type 0 where
   pub κs : Lfts (T .signature .lifetimes)
   pub args : ArgsD (T .signature) κs
   pub result : ResD (T .signature) κs
@@ -74,12 +77,12 @@ pub record Ran (Asked Given : Type 0) : Type 0 where
 abbrev pub outcomeOf : Answer → Words → Outcome
 outcomeOf a exit = record { number = numberOf a; taken = takenOf a; added = addedOf a; words = exit }
 
-abbrev pub changed : ChangeCall → Ran Change Outcome
-changed (inl k) =
+abbrev pub changeRan : ChangeCall → Ran Change Outcome
+changeRan (inl k) =
     let (sheet, (store, (kind, (table, (old, (new, _)))))) = k .args in
     let (_, (exit, _)) = k .exit in
     record { sheet = now sheet; store = now store; asked = changeOf kind table (now old) (now new); outcome = outcomeOf (k .result) (now exit) }
-changed (inr k) =
+changeRan (inr k) =
     let (sheet, (store, (kind, (table, (old, (new, _)))))) = k .args in
     let (_, (exit, (_, (_, (_, (_, (taken, (added, _)))))))) = k .exit in
     record {
@@ -89,12 +92,12 @@ changed (inr k) =
       outcome = record { number = k .result; taken = now taken; added = now added; words = now exit };
     }
 
-abbrev pub filled : FillCall → Ran Words Outcome
-filled (inl k) =
+abbrev pub fillRan : FillCall → Ran Words Outcome
+fillRan (inl k) =
     let (sheet, (base, (store, _))) = k .args in
     let (_, (_, (exit, _))) = k .exit in
     record { sheet = now sheet; store = now store; asked = now base; outcome = outcomeOf (k .result) (now exit) }
-filled (inr k) =
+fillRan (inr k) =
     let (sheet, (base, (store, _))) = k .args in
     let (_, (_, (exit, (taken, (added, _))))) = k .exit in
     record {
@@ -105,15 +108,20 @@ filled (inr k) =
     }
 
 -- the exported one names a stretch of the store
-abbrev pub showed : ShowCall → Ran ℕ Stretch
-showed (inl k) =
+abbrev pub showRan : ShowCall → Ran ℕ Stretch
+showRan (inl k) =
     let (sheet, (store, (part, _))) = k .args in
     let (_, (_, (_, (refusal, _)))) = k .exit in
     record { sheet = now sheet; store = now store; asked = part; outcome = record { number = now refusal; words = now (k .result) } }
-showed (inr k) =
+showRan (inr k) =
     let (sheet, (store, (part, _))) = k .args in
     let (_, (_, (_, (first, (count, _))))) = k .exit in
-    record { sheet = now sheet; store = now store; asked = part; outcome = record { number = k .result; words = take (now count) (drop (now first) (now store)) } }
+    record {
+      sheet = now sheet;
+      store = now store;
+      asked = part;
+      outcome = record { number = k .result; words = take (now count) (drop (now first) (now store)) };
+    }
 
 abbrev pub plannedSheet : PlanCall → Words
 plannedSheet (inl k) = now (k .args .0)

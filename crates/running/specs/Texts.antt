@@ -11,7 +11,7 @@ use Rattle.meaning.specs.Plan.{root, kept, shown, dep, need, inOrder, storeLeng
 use Rattle.meaning.specs.Demands.{Refused}
 use Rattle.text.specs.Reading.{Text, says, isnt, readText}
 use Rattle.text.specs.Printing.{lineText, headText, refusedText}
-use Rattle.text.specs.Writing.{Wrote}
+use Rattle.text.specs.Writing.{PutAt}
 use Rattle.text.specs.declared.reading.Reader.{Reader}
 use Rattle.text.proofs.reading.Reader.new as new
 use Rattle.text.proofs.reading.Reader.new.Reads as new-reads
@@ -46,7 +46,7 @@ textOf ks = flat (map chunkOf ks)
 
 -- the reply wrote these bytes from the buffer's first on, and left the rest as it was
 abbrev pub Wrote-out : ReplyCall → Text → Type 0
-Wrote-out k bytes = Wrote (now (k .args .1 .0)) 0 bytes (now (k .exit .1 .0)) (k .result)
+Wrote-out k bytes = PutAt (now (k .args .1 .0)) 0 bytes (now (k .exit .1 .0)) (k .result)
 
 -- "table, kept or not, shown columns, Dep, Need", as Algorithm 3.1 derives them
 abbrev pub derivedText : Sheet → Text

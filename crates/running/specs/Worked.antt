@@ -10,9 +10,10 @@ use Rattle.lists.specs.Loops.{filled}
 use Rattle.lists.proofs.Truth.{sameLists→≡}
 use Rattle.rows.specs.Rows.{sameRow, cut}
 use Rattle.meaning.specs.Sheet.{sheetOf, goodCounts, goodEdge, goodCondition, goodListed, goodWords, goodTree, sheetRefusal}
-use Rattle.meaning.specs.Plan.{root, edgeInto, others, dep, depPlus, need, kept, isShown, shown, columns, size, start, storeLength, inOrder, tablePlan, goodPlan, plan}
+use Rattle.meaning.specs.Plan.{root, edgeInto, others, dep, depPlus, need, kept, isShown, shown, columns, size, start, storeLength}
+use Rattle.meaning.specs.Plan.{inOrder, tablePlan, goodPlan, plan}
 use Rattle.meaning.specs.Cases.{desk, deskUnlisted}
-use Rattle.plan_answer.specs.Answers.{setsOf, numbersOf, laid}
+use Rattle.plan_answer.specs.Answers.{setsOf, perTable, answerOf}
 use Rattle.oratjolet.specs.Exports.{planWords}
 
 -- the marks of eight tables, of which the desk sheet has four
@@ -30,12 +31,12 @@ abbrev deps : Words
 deps = sets ((0 ∷ 1 ∷ 0 ∷ 1 ∷ replicate 4 0) ∷ (0 ∷ 0 ∷ 1 ∷ replicate 5 0) ∷ none ∷ none ∷ [])
 
 -- A sheet, and the words that the document's plan of it comes to
-pub record Line : Type 0 where
+pub record WorkedPlan : Type 0 where
   pub sheet : Words
   pub words : Words
 
-abbrev pub lines : List Line
-lines =
+abbrev pub workedPlans : List WorkedPlan
+workedPlans =
     record {
       sheet = desk;
       words =
@@ -53,13 +54,16 @@ lines =
     ∷ record { sheet = 9 ∷ []; words = 1 ∷ replicate 219 0 }
     ∷ []
 
-abbrev got : Line → Words
-got l = planWords (laid (plan (l .sheet)))
+abbrev got : WorkedPlan → Words
+got l = planWords (answerOf (plan (l .sheet)))
 
-abbrev want : Line → Words
+abbrev want : WorkedPlan → Words
 want l = l .words
 
 -- antt computes a test, and the test's law turns it into the equation
-pub table : map got lines ≡ map want lines
-unfolding cut sheetOf goodCounts goodEdge goodCondition goodListed goodWords goodTree sheetRefusal root edgeInto others dep depPlus need kept isShown shown columns size start storeLength inOrder tablePlan goodPlan plan filled setsOf numbersOf laid planWords
-table = sameLists→≡ sameRow (sameLists→≡ eqb eqb→eq) (map got lines) (map want lines) tt
+pub plans-come-to : map got workedPlans ≡ map want workedPlans
+unfolding
+    cut sheetOf goodCounts goodEdge goodCondition goodListed goodWords goodTree sheetRefusal root edgeInto others dep
+    depPlus need kept isShown shown columns size start storeLength inOrder tablePlan goodPlan plan filled setsOf
+    perTable answerOf planWords
+plans-come-to = sameLists→≡ sameRow (sameLists→≡ eqb eqb→eq) (map got workedPlans) (map want workedPlans) tt

@@ -12,7 +12,7 @@ use Rattle.meaning.specs.Limits.{mostColumns, mostRoom}
 use Rattle.meaning.specs.Sheet.{tableCount, edgeCount, conditionCount, listedCount, sheetOf, hasColumn, width}
 use Rattle.meaning.specs.Sheet.{goodCounts, goodEdge, goodCondition, goodListed, goodWords, sameListed}
 use Rattle.sheet.specs.Numbered.{edgeNo, conditionNo, listingNo, widthNo, roomNo}
-use Rattle.sheet.specs.Rules.{Counts, Within, Column, EdgeRules, ConditionRules, ListingRules, Named, Rules}
+use Rattle.sheet.specs.Rules.{Counts, InRange, Column, EdgeRules, ConditionRules, ListingRules, Named, Rules}
 use Rattle.sheet.specs.Tests.{widthPasses, edgePasses, conditionPasses, listingPasses, listingNames, roomPasses}
 use Rattle.sheet.proofs.Words.{n-is, width-is, widths-are, edges-are, conditions-are, listed-are, rooms-are}
 use Rattle.sheet.proofs.Numbers.{all-up, none-twice-up, every-and}
@@ -94,25 +94,25 @@ listing-facts ws i h = let a = and-true _ _ h in record { there = column-facts _
     not-not true e = sym e
     not-not false e = refl
 
-within-facts : (lowest highest x : ℕ) → between lowest highest x ≡ true → Within lowest highest x
+within-facts : (lowest highest x : ℕ) → between lowest highest x ≡ true → InRange lowest highest x
 within-facts lowest highest x h = let a = and-true _ _ h in record { low = leb-true _ _ (a .0); high = leb-true _ _ (a .1) }
 
-within-make : (lowest highest x : ℕ) → Within lowest highest x → true ≡ between lowest highest x
+within-make : (lowest highest x : ℕ) → InRange lowest highest x → true ≡ between lowest highest x
 within-make lowest highest x h = rw (le-leb _ _ (h .low), le-leb _ _ (h .high))
 
-pub width-facts : (ws : Words) (t : ℕ) → widthPasses ws t ≡ true → Within 1 mostColumns (widthNo ws t)
+pub width-facts : (ws : Words) (t : ℕ) → widthPasses ws t ≡ true → InRange 1 mostColumns (widthNo ws t)
 unfolding widthPasses
 width-facts ws t h = within-facts _ _ _ h
 
-pub width-make : (ws : Words) (t : ℕ) → Within 1 mostColumns (widthNo ws t) → true ≡ widthPasses ws t
+pub width-make : (ws : Words) (t : ℕ) → InRange 1 mostColumns (widthNo ws t) → true ≡ widthPasses ws t
 unfolding widthPasses
 width-make ws t h = within-make _ _ _ h
 
-pub room-facts : (ws : Words) (part : ℕ) → roomPasses ws part ≡ true → Within 0 mostRoom (roomNo ws part)
+pub room-facts : (ws : Words) (part : ℕ) → roomPasses ws part ≡ true → InRange 0 mostRoom (roomNo ws part)
 unfolding roomPasses
 room-facts ws part h = within-facts _ _ _ h
 
-pub room-make : (ws : Words) (part : ℕ) → Within 0 mostRoom (roomNo ws part) → true ≡ roomPasses ws part
+pub room-make : (ws : Words) (part : ℕ) → InRange 0 mostRoom (roomNo ws part) → true ≡ roomPasses ws part
 unfolding roomPasses
 room-make ws part h = within-make _ _ _ h
 

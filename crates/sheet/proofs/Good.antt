@@ -22,7 +22,7 @@ use Rattle.sheet.proofs.Numbers.{all-upTo, length-upTo}
 use Rattle.sheet.proofs.Words.{n-is}
 use Rattle.sheet.proofs.Facts.{counts-facts, rules}
 use Rattle.sheet.specs.Tree.{oneInto, rootNo, reachedNo, GoodSheet}
-use Rattle.sheet.specs.Verdicts.{verdictOf, numberOf}
+use Rattle.sheet.specs.Verdicts.{verdictOf, verdictNumber}
 use Rattle.sheet.specs.declared.Verdict.the-variants.{Good, Refused}
 use Rattle.sheet.proofs.Into.{joined}
 
@@ -83,11 +83,11 @@ module _ (ws : Words) where
       go true e q = absurd (let z : _≡_ {A = ℕ} 0 1 = cc in omega arith)
       go false e q = let r : sheetRefusal ws ≡ k = cc in (r, λ z. eqb-false _ _ e (r ∙ z))
 
-  pub number-is : numberOf (verdictOf ws) ≡ sheetRefusal ws
+  pub number-is : verdictNumber (verdictOf ws) ≡ sheetRefusal ws
   unfolding verdictOf
   number-is = go (eqb (sheetRefusal ws) 0) refl
     where
-      go : (b : Bool) → eqb (sheetRefusal ws) 0 ≡ b → numberOf (cond b Good (Refused (sheetRefusal ws))) ≡ sheetRefusal ws
+      go : (b : Bool) → eqb (sheetRefusal ws) 0 ≡ b → verdictNumber (cond b Good (Refused (sheetRefusal ws))) ≡ sheetRefusal ws
       go true e = sym (eqb-true _ _ e)
       go false e = refl
 

@@ -22,7 +22,7 @@ pub record Counts (ws : Words) : Type 0 where
   pub length-right : length ws ≡ 4 + 2 * tableCount ws + 1 + 4 * edgeCount ws + 4 * conditionCount ws + 2 * listedCount ws
 
 -- both ends included
-pub record Within (lowest highest x : ℕ) : Type 0 where
+pub record InRange (lowest highest x : ℕ) : Type 0 where
   pub low : lowest ≤ x
   pub high : x ≤ highest
 
@@ -54,8 +54,8 @@ pub record Named (ws : Words) (t c i : ℕ) : Type 0 where
 -- all of refusals 1 and 2
 pub record Rules (ws : Words) : Type 0 where
   pub counts : Counts ws
-  pub widths : (t : ℕ) → t < tableCount ws → Within 1 mostColumns (widthNo ws t)
+  pub widths : (t : ℕ) → t < tableCount ws → InRange 1 mostColumns (widthNo ws t)
   pub edges : (i : ℕ) → i < edgeCount ws → EdgeRules ws i
   pub conditions : (i : ℕ) → i < conditionCount ws → ConditionRules ws i
   pub listings : (i : ℕ) → i < listedCount ws → ListingRules ws i
-  pub rooms : (t : ℕ) → t < tableCount ws + 1 → Within 0 mostRoom (roomNo ws t)
+  pub rooms : (t : ℕ) → t < tableCount ws + 1 → InRange 0 mostRoom (roomNo ws t)

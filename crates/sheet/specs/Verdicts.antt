@@ -12,6 +12,6 @@ unfoldable pub verdictOf : Words → Verdict
 verdictOf ws = cond (eqb (sheetRefusal ws) 0) Good (Refused (sheetRefusal ws))
 
 -- document 01's number of each verdict
-abbrev pub numberOf : Verdict → ℕ
-numberOf Good = 0
-numberOf (Refused k) = k
+abbrev pub verdictNumber : Verdict → ℕ
+verdictNumber Good = 0
+verdictNumber (Refused k) = k

@@ -43,7 +43,7 @@ use rules::words_ok;
 pub use tree::edge_into;
 use tree::tree_ok;
 ghost use mathlib.Core.Path.{_≡_};
-ghost use Rattle.sheet.specs.Verdicts.{verdictOf, numberOf};
+ghost use Rattle.sheet.specs.Verdicts.{verdictOf, verdictNumber};
 
 pub enum Verdict {
     Good,
@@ -68,7 +68,7 @@ pub fn verdict_of(sheet: &[u64]) -> Verdict
 
 // Document 01's number of a verdict on a sheet: 0 for a good one.
 pub fn number_of(v: Verdict) -> u64
-    ensures { λ k. ⌜ k ≡ numberOf v ⌝ }
+    ensures { λ k. ⌜ k ≡ verdictNumber v ⌝ }
 {
     match v {
         Verdict::Good => 0,

@@ -17,7 +17,7 @@ use Rattle.sheet.specs.Counted.{counted}
 use Rattle.sheet.specs.Rules.{Rules}
 use Rattle.laws.proofs.Lists.{select-append}
 use Rattle.sheet.proofs.Numbers.{length-upTo}
-use Rattle.sheet_plan.specs.Marks.{marked, markedIn}
+use Rattle.sheet_plan.specs.Marks.{hasMark, markedIn}
 use Rattle.sheet_plan.specs.Plans.{showsOf}
 use Rattle.sheet_plan.proofs.Chosen.{upTo-split}
 use Rattle.sheet_plan.proofs.Shown.{marked-columns}
@@ -44,13 +44,13 @@ pub place-is : (ws : Words) → Rules ws → (t c : ℕ) → t < tableCount ws �
 unfolding placesOf placeNo markedIn
 place-is ws r t c h m =
     let e = marked-columns ws r t eight in
-    let k = mem-select (marked (showsOf (sheetOf ws)) t) (upTo 8) c (subst (λ (l : List ℕ). Mem c l) (sym e) m) in
+    let k = mem-select (hasMark (showsOf (sheetOf ws)) t) (upTo 8) c (subst (λ (l : List ℕ). Mem c l) (sym e) m) in
     let l = upTo-mem 8 c (k .0) in
     let a : (8 * t + c) / 8 ≡ t = omega arith in
     let b : (8 * t + c) % 8 ≡ c = omega arith in
     getD-filled (placeNo (showsOf (sheetOf ws))) 64 (8 * t + c) 0 (replicate 64 0) (omega (arith, eight)) (omega arith)
-    ∙ ap₂ (λ (x y : ℕ). counted (marked (showsOf (sheetOf ws)) x) y) a b
-    ∙ sym (place-chosen (marked (showsOf (sheetOf ws)) t) 8 c l (T→≡ (marked (showsOf (sheetOf ws)) t c) (k .1))) ∙ ap (placeOf c) e
+    ∙ ap₂ (λ (x y : ℕ). counted (hasMark (showsOf (sheetOf ws)) x) y) a b
+    ∙ sym (place-chosen (hasMark (showsOf (sheetOf ws)) t) 8 c l (T→≡ (hasMark (showsOf (sheetOf ws)) t c) (k .1))) ∙ ap (placeOf c) e
   where
     eight : t < 8
     eight = omega (arith, r .counts .tables-few)

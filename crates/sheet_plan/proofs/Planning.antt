@@ -17,7 +17,7 @@ use Rattle.sheet.specs.Tree.{GoodSheet}
 use Rattle.sheet.proofs.Good.{zero-good, good-sheet}
 use Rattle.sheet_plan.specs.Plans.{keptAt, keptOf, showsAt, showsOf, shownAt, shownOf, columnsOf, roomAt, roomsOf, startsOf, planFor}
 use Rattle.sheet_plan.specs.Plans.{planBeside, checkedOf}
-use Rattle.sheet_plan.specs.Planned.{Lengths, Planned}
+use Rattle.sheet_plan.specs.Planned.{Lengths, IsPlan}
 use Rattle.sheet_plan.specs.declared.Plan.{Plan}
 use Rattle.sheet_plan.proofs.Shown.{width-small}
 use Rattle.sheet_plan.proofs.Sizes as Sizes
@@ -77,7 +77,7 @@ module _ (ws : Words) (g : GoodSheet ws) where
   unfolding storeLength
   small = omega (arith, Sizes.start-small ws g (sheetOf ws .n + 1) (omega (arith, n-is ws)), n-few)
 
-  pub plan-facts : Planned (sheetOf ws) (planFor (sheetOf ws))
+  pub plan-facts : IsPlan (sheetOf ws) (planFor (sheetOf ws))
   unfolding planFor keptOf keptAt showsOf showsAt shownOf shownAt columnsOf roomsOf roomAt storeLength
   plan-facts =
       record {
@@ -116,5 +116,5 @@ module _ (ws : Words) (h : sheetRefusal ws ≡ 0) where
   unfolding checkedOf
   good-plan = ap (λ v. planBeside v (sheetOf ws)) (zero-good ws h)
 
-  pub planned : Planned (sheetOf ws) (checkedOf ws .plan)
-  planned = subst (λ (p : Plan). Planned (sheetOf ws) p) (sym good-plan) (plan-facts ws (good-sheet ws h))
+  pub planned : IsPlan (sheetOf ws) (checkedOf ws .plan)
+  planned = subst (λ (p : Plan). IsPlan (sheetOf ws) p) (sym good-plan) (plan-facts ws (good-sheet ws h))

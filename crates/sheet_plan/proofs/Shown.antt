@@ -18,7 +18,7 @@ use Rattle.meaning.specs.Plan.{isShown, shown}
 use Rattle.sheet.specs.Rules.{Rules}
 use Rattle.sheet.specs.Numbered.{widthNo}
 use Rattle.sheet.proofs.Words.{n-is, width-is, widths-are}
-use Rattle.sheet_plan.specs.Marks.{marked, markedIn, markedAt, listsOf}
+use Rattle.sheet_plan.specs.Marks.{hasMark, markedIn, markedAt, listsOf}
 use Rattle.sheet_plan.specs.Plans.{showsAt, showsOf, shownAt, shownOf}
 use Rattle.sheet_plan.proofs.Chosen.{select-narrow, filled-same}
 
@@ -52,8 +52,8 @@ module _ (ws : Words) (r : Rules ws) where
           ∙ sym (le-ltb c (width (sheetOf ws) t) (omega (arith, width-past t (ltb-false t (tableCount ws) e))))
 
   -- the marks of table t
-  pub marked-shows : (t c : ℕ) → t < 8 → c < 8 → marked (showsOf (sheetOf ws)) t c ≡ (ltb c (width (sheetOf ws) t) && isShown (sheetOf ws) t c)
-  unfolding marked showsOf showsAt
+  pub marked-shows : (t c : ℕ) → t < 8 → c < 8 → hasMark (showsOf (sheetOf ws)) t c ≡ (ltb c (width (sheetOf ws) t) && isShown (sheetOf ws) t c)
+  unfolding hasMark showsOf showsAt
   marked-shows t c h l =
       let q : (8 * t + c) / 8 ≡ t = omega arith in
       let m : (8 * t + c) % 8 ≡ c = omega arith in
@@ -62,7 +62,7 @@ module _ (ws : Words) (r : Rules ws) where
   pub marked-columns : (t : ℕ) → t < 8 → markedIn (showsOf (sheetOf ws)) t ≡ shown (sheetOf ws) t
   unfolding markedIn shown
   marked-columns t h =
-      select-same (marked (showsOf (sheetOf ws)) t) (λ c. ltb c (width (sheetOf ws) t) && isShown (sheetOf ws) t c) (upTo 8)
+      select-same (hasMark (showsOf (sheetOf ws)) t) (λ c. ltb c (width (sheetOf ws) t) && isShown (sheetOf ws) t c) (upTo 8)
       (λ c m. marked-shows t c h (upTo-mem 8 c m))
       ∙ select-narrow (isShown (sheetOf ws) t) (width (sheetOf ws) t) 8 (width-small t)
 

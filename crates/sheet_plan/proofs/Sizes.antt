@@ -25,7 +25,7 @@ use Rattle.sheet.specs.Numbered.{listingNo, roomNo}
 use Rattle.sheet.proofs.Words.{n-is, listed-are, room-is}
 use Rattle.sheet.proofs.Numbers.{length-upTo}
 use Rattle.sheet.specs.Tree.{GoodSheet}
-use Rattle.sheet_plan.specs.Marks.{marked, markedIn}
+use Rattle.sheet_plan.specs.Marks.{hasMark, markedIn}
 use Rattle.sheet_plan.specs.Plans.{keptAt, keptOf, showsOf, columnsOf, roomAt, roomsOf, startsOf}
 use Rattle.sheet_plan.proofs.Shown.{width-small, marked-columns}
 
@@ -88,7 +88,7 @@ module _ (ws : Words) (g : GoodSheet ws) where
         go true q w = absurd (omega arith)
         go false q w = sym (columns-unkept (sheetOf ws) part (omega (arith, n-is ws)) (false→F q))
 
-    pub columns-shown : (shows : List ℕ) (k : ℕ) → shows ≡ showsOf (sheetOf ws) → (getD marks part 0 ≡ 0 → ⊥) → k ≡ counted (marked shows part) 8
+    pub columns-shown : (shows : List ℕ) (k : ℕ) → shows ≡ showsOf (sheetOf ws) → (getD marks part 0 ≡ 0 → ⊥) → k ≡ counted (hasMark shows part) 8
         → k ≡ columns (sheetOf ws) part
     unfolding markedIn
     columns-shown shows k w z q = go (kept (sheetOf ws) part) refl kept-read
@@ -98,7 +98,7 @@ module _ (ws : Words) (g : GoodSheet ws) where
 
         go : (b : Bool) → kept (sheetOf ws) part ≡ b → getD marks part 0 ≡ one b → k ≡ columns (sheetOf ws) part
         go true d y =
-            q ∙ ap (λ (l : List ℕ). counted (marked l part) 8) w ∙ sym (length-upTo (marked (showsOf (sheetOf ws)) part) 8)
+            q ∙ ap (λ (l : List ℕ). counted (hasMark l part) 8) w ∙ sym (length-upTo (hasMark (showsOf (sheetOf ws)) part) 8)
             ∙ ap length (marked-columns ws (g .joined .rules) part eight) ∙ sym (columns-side (sheetOf ws) part (omega (arith, n-is ws)) (isT d))
         go false d y = absurd (z y)
 

@@ -21,7 +21,7 @@ use Rattle.sheet.specs.declared.Verdict.the-variants.{Good, Refused}
 use Rattle.sheet.specs.Counted.{counted}
 use Rattle.sheet.proofs.Words.{n-is}
 use Rattle.derive.specs.Derived.{shownNo}
-use Rattle.sheet_plan.specs.Marks.{marked, markedIn, markedAt, listsOf, placesOf}
+use Rattle.sheet_plan.specs.Marks.{hasMark, markedIn, markedAt, listsOf, placesOf}
 use Rattle.sheet_plan.specs.Orders.{orderOf}
 use Rattle.sheet_plan.specs.Plans.{keptOf, showsAt, showsOf, columnsOf, roomsOf, startsOf, planFor, emptyPlan, checkedOf}
 use Rattle.sheet_plan.specs.declared.Plan.{Plan}
@@ -59,22 +59,22 @@ unfolding showsAt shownNo
 shows-mark ws i v b h e m = rw h (m ∙ ap one e)
 
 module _ (marks : List ℕ) (t : ℕ) where
-  pub marked-yes : (c : ℕ) → getD marks (8 * t + c) 0 ≡ 1 → marked marks t c ≡ true
-  unfolding marked
+  pub marked-yes : (c : ℕ) → getD marks (8 * t + c) 0 ≡ 1 → hasMark marks t c ≡ true
+  unfolding hasMark
   marked-yes c h = eq-eqb _ _ h
 
-  pub marked-no : (c : ℕ) → (getD marks (8 * t + c) 0 ≡ 1 → ⊥) → marked marks t c ≡ false
-  unfolding marked
+  pub marked-no : (c : ℕ) → (getD marks (8 * t + c) 0 ≡ 1 → ⊥) → hasMark marks t c ≡ false
+  unfolding hasMark
   marked-no c h = ne-eqb _ _ h
 
   -- number j, and none past the last
-  pub marked-found : (j c many : ℕ) → many ≡ counted (marked marks t) c → c < 8 → many ≡ j → getD marks (8 * t + c) 0 ≡ 1 → c ≡ markedAt marks t j
+  pub marked-found : (j c many : ℕ) → many ≡ counted (hasMark marks t) c → c < 8 → many ≡ j → getD marks (8 * t + c) 0 ≡ 1 → c ≡ markedAt marks t j
   unfolding markedAt markedIn
-  marked-found j c many e h q m = sym (chosen-at (marked marks t) 8 c j (sym q ∙ e) h (marked-yes c m))
+  marked-found j c many e h q m = sym (chosen-at (hasMark marks t) 8 c j (sym q ∙ e) h (marked-yes c m))
 
-  pub marked-past : (j many : ℕ) → many ≡ counted (marked marks t) 8 → many ≤ j → 0 ≡ markedAt marks t j
+  pub marked-past : (j many : ℕ) → many ≡ counted (hasMark marks t) 8 → many ≤ j → 0 ≡ markedAt marks t j
   unfolding markedAt markedIn
-  marked-past j many e h = sym (chosen-past (marked marks t) 8 j (omega arith))
+  marked-past j many e h = sym (chosen-past (hasMark marks t) 8 j (omega arith))
 
 -- the plan, put together
 pub plan-made : (ws : Words) → Rules ws → (tables root : ℕ) (kept shows shown columns rooms starts order places : List ℕ)

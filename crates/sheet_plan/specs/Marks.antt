@@ -10,12 +10,12 @@ use Rattle.lists.specs.Loops.{filled}
 use Rattle.sheet.specs.Counted.{counted}
 
 -- c is marked in row t
-unfoldable pub marked : List ℕ → ℕ → ℕ → Bool
-marked marks t c = eqb (getD marks (8 * t + c) 0) 1
+unfoldable pub hasMark : List ℕ → ℕ → ℕ → Bool
+hasMark marks t c = eqb (getD marks (8 * t + c) 0) 1
 
 -- the marked numbers of row t, rising
 unfoldable pub markedIn : List ℕ → ℕ → List ℕ
-markedIn marks t = select (marked marks t) (upTo 8)
+markedIn marks t = select (hasMark marks t) (upTo 8)
 
 unfoldable pub markedAt : List ℕ → ℕ → ℕ → ℕ
 markedAt marks t j = at (markedIn marks t) j
@@ -26,7 +26,7 @@ listsOf marks = filled (λ i. markedAt marks (i / 8) (i % 8)) 64 (replicate 64 0
 
 -- the place of each number among the marked ones: how many before it are marked
 unfoldable pub placeNo : List ℕ → ℕ → ℕ
-placeNo marks i = counted (marked marks (i / 8)) (i % 8)
+placeNo marks i = counted (hasMark marks (i / 8)) (i % 8)
 
 unfoldable pub placesOf : List ℕ → List ℕ
 placesOf marks = filled (placeNo marks) 64 (replicate 64 0)

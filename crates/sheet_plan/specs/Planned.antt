@@ -24,7 +24,7 @@ pub record Lengths (p : Plan) : Type 0 where
   pub places-length : length (p .places) ≡ 64
 
 -- p is the plan of the sheet s
-pub record Planned (s : Sheet) (p : Plan) : Type 0 where
+pub record IsPlan (s : Sheet) (p : Plan) : Type 0 where
   pub lengths : Lengths p
   pub tables-some : 1 ≤ p .tables
   pub tables-few : p .tables ≤ 8

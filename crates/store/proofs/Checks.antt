@@ -7,7 +7,7 @@ use Rattle.lists.specs.Lists.{Words}
 use Rattle.meaning.specs.Sheet.{sheetOf, sheetRefusal}
 use Rattle.laws.proofs.Sheets.{good-sheet}
 use Rattle.sheet.specs.declared.Verdict.the-variants.{Good, Refused}
-use Rattle.sheet.specs.Verdicts.{verdictOf, numberOf}
+use Rattle.sheet.specs.Verdicts.{verdictOf, verdictNumber}
 use Rattle.sheet.proofs.Good.{good-zero, zero-good, number-is}
 use Rattle.sheet_plan.specs.declared.Checked.{Checked}
 use Rattle.sheet_plan.specs.Plans.{checkedOf}
@@ -33,12 +33,12 @@ module _ (ws : Words) (c : Checked) (e : c ≡ checkedOf ws) where
 
   -- a refused one
   pub check-refused : (k : ℕ) → c .verdict ≡ Refused k → sheetRefusal ws ≡ k
-  check-refused k r = sym (number-is ws) ∙ ap numberOf (sym verdict-is ∙ r)
+  check-refused k r = sym (number-is ws) ∙ ap verdictNumber (sym verdict-is ∙ r)
 
   pub check-numbered : (k : ℕ) → c .verdict ≡ Refused k → k ≡ 0 → ⊥
   check-numbered k r z =
       let good : c .verdict ≡ Good = verdict-is ∙ zero-good ws (check-refused k r ∙ z) in
       let q : _≡_ {A = ℕ} 0 1 = cc in omega arith
 
-  pub check-some : (k r : ℕ) → c .verdict ≡ Refused k → r ≡ numberOf (c .verdict) → r ≡ 0 → ⊥
-  check-some k r v q z = check-numbered k v (sym (q ∙ ap numberOf v) ∙ z)
+  pub check-some : (k r : ℕ) → c .verdict ≡ Refused k → r ≡ verdictNumber (c .verdict) → r ≡ 0 → ⊥
+  check-some k r v q z = check-numbered k v (sym (q ∙ ap verdictNumber v) ∙ z)

@@ -13,7 +13,7 @@ use Rattle.meaning.specs.Sheet.{Sheet, sheetOf, sheetRefusal}
 use Rattle.meaning.specs.Plan.{columns, start, storeLength}
 use Rattle.meaning.specs.Store.{sound, stretchOf, modelOf}
 use Rattle.sheet.specs.declared.Verdict.the-variants.{Good, Refused}
-use Rattle.sheet.specs.Verdicts.{numberOf}
+use Rattle.sheet.specs.Verdicts.{verdictNumber}
 use Rattle.sheet_plan.specs.declared.Checked.{Checked}
 use Rattle.sheet_plan.specs.Plans.{checkedOf}
 use Rattle.places.proofs.Stands.{sound-stands}
@@ -28,7 +28,7 @@ use Rattle.store.proofs.Checks.{check-good, check-plan, check-refused, 
 use Rattle.store.proofs.Shows.{shows-sheet, shows-length, shows-no-part, shows-unsound, shows-rows}
 
 -- the part that an accepted call shows
-pub record Shown (sheet store : Words) (number : ℕ) (q : Part) : Type 0 where
+pub record ShownPart (sheet store : Words) (number : ℕ) (q : Part) : Type 0 where
   pub kept : Kept q store
   pub rows : Gives sheet store number (part store (q .start) (q .start + countIn q store * q .columns)) 0
   pub place : q .start ≡ firstOf sheet number 0
@@ -46,9 +46,9 @@ pub stretch-ends : (q : Part) (ws : Words) → Kept q ws → q .start + countIn 
 stretch-ends q ws k = omega (arith, k .within .ends, k .region .fits, words-length q ws k)
 
 module _ (sheet store : Words) (number : ℕ) (c : Checked) (e : c ≡ checkedOf sheet) where
-  pub show-refused : (k r : ℕ) → c .verdict ≡ Refused k → r ≡ numberOf (c .verdict) → Gives sheet store number [] r
+  pub show-refused : (k r : ℕ) → c .verdict ≡ Refused k → r ≡ verdictNumber (c .verdict) → Gives sheet store number [] r
   show-refused k r v q =
-      subst (Gives sheet store number []) (sym (q ∙ ap numberOf v))
+      subst (Gives sheet store number []) (sym (q ∙ ap verdictNumber v))
       (shows-sheet sheet store number k (check-refused sheet c e k v) (check-numbered sheet c e k v))
 
   module _ (g : c .verdict ≡ Good) where
@@ -85,7 +85,7 @@ module _ (sheet store : Words) (number : ℕ) (c : Checked) (e : c ≡ checkedOf
           lies : Lies (sheetOf sheet) number q
           lies = part-lies (sheetOf sheet) (c .plan) plan number inside q p
 
-          pub show-part : Shown sheet store number q
+          pub show-part : ShownPart sheet store number q
           unfolding firstOf
           show-part =
               record {

@@ -22,13 +22,13 @@ addedOf (Done taken added) = added
 addedOf (Refused number) = 0
 
 -- a refusal's number is one of the table, never 0
-abbrev pub Numbered : Answer → Type 0
-Numbered (Done taken added) = Unit {0}
-Numbered (Refused number) = number ≡ 0 → ⊥
+abbrev pub NeverRefuses0 : Answer → Type 0
+NeverRefuses0 (Done taken added) = Unit {0}
+NeverRefuses0 (Refused number) = number ≡ 0 → ⊥
 
 -- the answer says the outcome, and the store's words at exit are the outcome's
 pub record Says (o : Outcome) (a : Answer) (exit : Words) : Type 0 where
-  pub numbered : Numbered a
+  pub numbered : NeverRefuses0 a
   pub number : numberOf a ≡ o .number
   pub taken : takenOf a ≡ o .taken
   pub added : addedOf a ≡ o .added

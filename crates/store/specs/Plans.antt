@@ -11,14 +11,14 @@ use Rattle.meaning.specs.Sheet.{Sheet}
 use Rattle.meaning.specs.Store.{sound}
 use Rattle.laws.specs.Sheets.{Good}
 use Rattle.sheet_plan.specs.declared.Plan.{Plan}
-use Rattle.sheet_plan.specs.Planned.{Planned}
+use Rattle.sheet_plan.specs.Planned.{IsPlan}
 use Rattle.store.specs.declared.Part.{Part}
 use Rattle.store.specs.Tests.{tableSound}
 
 -- p is the plan of s, a good sheet
 pub record GoodPlan (s : Sheet) (p : Plan) : Type 0 where
   pub good : Good s
-  pub planned : Planned s p
+  pub planned : IsPlan s p
 
 -- p is the plan of some good sheet
 pub record OfSheet (p : Plan) : Type 0 where

@@ -11,7 +11,7 @@ use Rattle.meaning.specs.Plan.{plan}
 use Rattle.text.specs.Reading.{Text, says, isnt, readText}
 use Rattle.text.specs.Printing.{refusedText, planText}
 use Rattle.text.specs.Readers.{fresh, finished, readingOf, afterBytes, afterChunks}
-use Rattle.text.specs.Outcomes.{planFor, planOfText, printed, replyTo}
+use Rattle.text.specs.Outcomes.{planOfReading, planOfText, printed, replyTo}
 use Rattle.text.specs.declared.reading.Reader.{Reader}
 use Rattle.text.proofs.Bytes.{passed, failing, any-chunks}
 use Rattle.text.proofs.Texts.{reads}
@@ -21,13 +21,13 @@ use Rattle.text.proofs.Lengths.{first-enough}
 module _ (r q : Reader) (e : q ≡ finished r) where
   pub replies-unread : q .failed ≡ true → refusedText 1 ≡ replyTo r
   unfolding replyTo readingOf planText
-  replies-unread f = ap (λ x. planText (planFor x)) (passed (q .failed) isnt (says (take (q .many) (q .words))) f ∙ ap readingOf e)
+  replies-unread f = ap (λ x. planText (planOfReading x)) (passed (q .failed) isnt (says (take (q .many) (q .words))) f ∙ ap readingOf e)
 
   pub replies-words : q .failed ≡ false → (ws : Words) → ws ≡ take (q .many) (q .words) → planText (plan ws) ≡ replyTo r
   unfolding replyTo readingOf
   replies-words f ws w =
-      ap (λ x. planText (planFor (says x))) w
-      ∙ ap (λ x. planText (planFor x)) (failing (q .failed) isnt (says (take (q .many) (q .words))) f ∙ ap readingOf e)
+      ap (λ x. planText (planOfReading (says x))) w
+      ∙ ap (λ x. planText (planOfReading x)) (failing (q .failed) isnt (says (take (q .many) (q .words))) f ∙ ap readingOf e)
 
   -- a full reader holds all its words
   pub replies-full : q .failed ≡ false → length (q .words) ≤ q .many → planText (plan (q .words)) ≡ replyTo r
@@ -35,7 +35,7 @@ module _ (r q : Reader) (e : q ≡ finished r) where
 
 pub replies : (text : Text) → replyTo (afterBytes fresh text) ≡ printed text
 unfolding replyTo printed planOfText
-replies text = ap (λ r. planText (planFor r)) (reads text) ∙ ap planText (first-enough (readText text))
+replies text = ap (λ r. planText (planOfReading r)) (reads text) ∙ ap planText (first-enough (readText text))
 
 pub chunks-reply : (chunks : List Text) → replyTo (afterChunks fresh chunks) ≡ printed (flat chunks)
 chunks-reply chunks = ap replyTo (any-chunks chunks fresh) ∙ replies (flat chunks)

@@ -13,7 +13,7 @@ use lib.Dec.{ltb}
 use borrow.Author.Tests.{not-true, not-false, ne-eqb, le-leb, lt-leb, lt-ltb, le-ltb}
 use Rattle.lists.specs.Lists.{flat}
 use Rattle.text.specs.Reading.{Text, isBlank, isDigit}
-use Rattle.text.specs.Readers.{most, broken, emptied, kept, longer, afterBlank, afterDigit, afterByte, afterBytes, afterChunks}
+use Rattle.text.specs.Readers.{most, broken, emptied, noted, longer, afterBlank, afterDigit, afterByte, afterBytes, afterChunks}
 use Rattle.text.specs.declared.reading.Reader.{Reader}
 
 pub blank : (b : ℕ) → (b ≡ 10) ⊎ (b ≡ 32) → isBlank b ≡ true
@@ -71,7 +71,7 @@ module _ (r : Reader) where
   unfolding afterBlank
   blank-full h l = failing (ltb (r .many) most) _ _ (le-ltb _ _ l) ∙ passed (r .begun) _ _ (not-false _ h)
 
-  pub blank-kept : not (r .begun) ≡ false → r .many < most → kept r ≡ afterBlank r
+  pub blank-kept : not (r .begun) ≡ false → r .many < most → noted r ≡ afterBlank r
   unfolding afterBlank
   blank-kept h l = passed (ltb (r .many) most) _ _ (lt-ltb _ _ l) ∙ passed (r .begun) _ _ (not-false _ h)
 

@@ -17,7 +17,7 @@ use Rattle.meaning.specs.Sheet.{goodCounts, sheetRefusal, tableCount, edgeCount
 use Rattle.meaning.specs.Plan.{plan}
 use Rattle.text.specs.Reading.{Reading, says, isnt}
 use Rattle.text.specs.Readers.{most, firstWords}
-use Rattle.text.specs.Outcomes.{planFor}
+use Rattle.text.specs.Outcomes.{planOfReading}
 
 -- the counts are small, and the length is what they say
 sheet-length : (ws : Words) → goodCounts ws ≡ true → length ws ≤ 145
@@ -42,7 +42,7 @@ pub too-long : (ws : Words) → most ≤ length ws → sheetRefusal ws ≡ 1
 unfolding sheetRefusal
 too-long ws h = rw (sym (no (goodCounts ws) (λ g. let l = sheet-length ws g in omega arith)))
 
-pub first-enough : (r : Reading) → planFor (firstWords r) ≡ planFor r
+pub first-enough : (r : Reading) → planOfReading (firstWords r) ≡ planOfReading r
 unfolding firstWords plan
 first-enough isnt = refl
 first-enough (says ws) = go (ltb (length ws) most) refl

@@ -10,19 +10,19 @@ use Rattle.lists.specs.Lists.{from, upTo}
 use Rattle.meaning.specs.Plan.{TablePlan}
 use Rattle.text.specs.Reading.{Text}
 use Rattle.text.specs.Printing.{tableText, tablesText, linesUpTo}
-use Rattle.text.specs.Writing.{Wrote}
+use Rattle.text.specs.Writing.{PutAt}
 use Rattle.text.proofs.Writes.{wrote-none, wrote-then}
 
-pub lines-none : (line : ℕ → Text) (s : List ℕ) (at : ℕ) → Wrote s at (linesUpTo line 0) s at
+pub lines-none : (line : ℕ → Text) (s : List ℕ) (at : ℕ) → PutAt s at (linesUpTo line 0) s at
 unfolding linesUpTo
 lines-none line s at = wrote-none s at
 
-pub lines-more : (line : ℕ → Text) (s s′ s″ : List ℕ) (at end end′ t : ℕ) → Wrote s at (linesUpTo line t) s′ end → Wrote s′ end (line t) s″ end′
-    → Wrote s at (linesUpTo line (t + 1)) s″ end′
+pub lines-more : (line : ℕ → Text) (s s′ s″ : List ℕ) (at end end′ t : ℕ) → PutAt s at (linesUpTo line t) s′ end → PutAt s′ end (line t) s″ end′
+    → PutAt s at (linesUpTo line (t + 1)) s″ end′
 unfolding linesUpTo
 lines-more line s s′ s″ at end end′ t w m = rw add-one (wrote-then w m)
 
-pub lines-end : (line : ℕ → Text) (s s′ : List ℕ) (at end k n : ℕ) → k ≤ n → n ≤ k → Wrote s at (linesUpTo line k) s′ end → Wrote s at (linesUpTo line n) s′ end
+pub lines-end : (line : ℕ → Text) (s s′ : List ℕ) (at end k n : ℕ) → k ≤ n → n ≤ k → PutAt s at (linesUpTo line k) s′ end → PutAt s at (linesUpTo line n) s′ end
 lines-end line s s′ at end k n a b w = rw (← le-antisymm a b) w
 
 -- the lines of tables in a list are the lines by number

@@ -13,7 +13,7 @@ use lib.Seq.{take-all, take-append-le, take-suc-set, length-take-le}
 use borrow.Author.Tests.{lt-ltb, le-ltb, ltb-true, ltb-false}
 use Rattle.lists.specs.Lists.{Words, all, select}
 use Rattle.text.specs.Reading.{Text, isBlank, isDigit, onward, value, before, pieces, isSome, decimals, isNumber, Reading, says, isnt, readText}
-use Rattle.text.specs.Readers.{most, fresh, broken, emptied, kept, longer, afterBlank, afterByte, afterBytes, finished, readingOf, firstWords}
+use Rattle.text.specs.Readers.{most, fresh, broken, emptied, noted, longer, afterBlank, afterByte, afterBytes, finished, readingOf, firstWords}
 use Rattle.text.specs.declared.reading.Reader.{Reader}
 use Rattle.text.proofs.Bytes.{blank, passed, failing, byte-failed, byte-blank, byte-digit, byte-other, digit-longer, digit-broken}
 
@@ -153,10 +153,10 @@ record Blanked (r q : Reader) : Type 0 where
   pub more : held q ≡ take most (held r ++ inHand (r .begun) (r .number))
 
 blanked : (r : Reader) → Proper r → Blanked r (afterBlank r)
-unfolding afterBlank kept emptied
+unfolding afterBlank noted emptied
 blanked r p = go (r .begun) refl (ltb (r .many) most) refl
   where
-    go : (t : Bool) → r .begun ≡ t → (u : Bool) → ltb (r .many) most ≡ u → Blanked r (cond t (cond u (kept r) (emptied r)) r)
+    go : (t : Bool) → r .begun ≡ t → (u : Bool) → ltb (r .many) most ≡ u → Blanked r (cond t (cond u (noted r) (emptied r)) r)
     go false e u l = record { proper = p; empty = e; more = rw e (held-none most (r .many) (r .words) (p .room)) }
     go true e true l =
         let m : r .many < most = ltb-true _ _ l in

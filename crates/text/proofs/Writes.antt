@@ -13,7 +13,7 @@ use lib.Seq.{sets, take-suc, take-all, length-sets}
 use borrow.Author.Tests.{lt-ltb, le-ltb, ltb-true, ltb-false}
 use Rattle.text.specs.Reading.{Text}
 use Rattle.text.specs.Printing.{digits, decimal}
-use Rattle.text.specs.Writing.{Wrote}
+use Rattle.text.specs.Writing.{PutAt}
 
 sets-append : (s : List ℕ) (at : ℕ) (xs ys : Text) → sets s at (xs ++ ys) ≡ sets (sets s at xs) (at + length xs) ys
 sets-append s at [] ys = rw add-zero
@@ -21,14 +21,14 @@ sets-append s at (x ∷ xs) ys =
     let e : at + suc (length xs) ≡ suc at + length xs = omega arith in
     sets-append (set s at x) (suc at) xs ys ∙ rw e
 
-pub wrote-none : (s : List ℕ) (at : ℕ) → Wrote s at [] s at
+pub wrote-none : (s : List ℕ) (at : ℕ) → PutAt s at [] s at
 wrote-none s at = record { new-is = refl; end-is = omega arith }
 
-pub wrote-byte : (s : List ℕ) (at v : ℕ) → Wrote s at (v ∷ []) (set s at v) (at + 1)
+pub wrote-byte : (s : List ℕ) (at v : ℕ) → PutAt s at (v ∷ []) (set s at v) (at + 1)
 wrote-byte s at v = record { new-is = refl; end-is = refl }
 
 module _ {s s′ s″ : List ℕ} {at at′ at″ : ℕ} {xs ys : Text} where
-  pub wrote-then : Wrote s at xs s′ at′ → Wrote s′ at′ ys s″ at″ → Wrote s at (xs ++ ys) s″ at″
+  pub wrote-then : PutAt s at xs s′ at′ → PutAt s′ at′ ys s″ at″ → PutAt s at (xs ++ ys) s″ at″
   wrote-then w w′ =
       record {
         new-is = w′ .new-is ∙ rw (w .new-is, w .end-is) (sym (sets-append s at xs ys));
@@ -36,21 +36,21 @@ module _ {s s′ s″ : List ℕ} {at at′ at″ : ℕ} {xs ys : Text} where
       }
 
 module _ {s s′ : List ℕ} {at at′ : ℕ} {xs : Text} where
-  pub wrote-length : Wrote s at xs s′ at′ → length s′ ≡ length s
+  pub wrote-length : PutAt s at xs s′ at′ → length s′ ≡ length s
   wrote-length w = ap length (w .new-is) ∙ length-sets s at xs
 
 -- a copy, one byte on
-pub put-more : (s s′ : List ℕ) (bytes : Text) (at i : ℕ) → i < length bytes → Wrote s at (take i bytes) s′ (at + i)
-    → Wrote s at (take (i + 1) bytes) (set s′ (at + i) (getD bytes i 0)) (at + (i + 1))
+pub put-more : (s s′ : List ℕ) (bytes : Text) (at i : ℕ) → i < length bytes → PutAt s at (take i bytes) s′ (at + i)
+    → PutAt s at (take (i + 1) bytes) (set s′ (at + i) (getD bytes i 0)) (at + (i + 1))
 put-more s s′ bytes at i h w =
     let e : at + (i + 1) ≡ at + i + 1 = omega arith in
     rw (e, add-one i, take-suc bytes i 0 h) (wrote-then w (wrote-byte s′ (at + i) (getD bytes i 0)))
 
-pub put-none : (s : List ℕ) (at : ℕ) → Wrote s at [] s (at + 0)
+pub put-none : (s : List ℕ) (at : ℕ) → PutAt s at [] s (at + 0)
 put-none s at = record { new-is = refl; end-is = refl }
 
-pub put-all : (s s′ : List ℕ) (bytes : Text) (at i : ℕ) → length bytes ≤ i → Wrote s at (take i bytes) s′ (at + i) → i ≤ length bytes
-    → Wrote s at bytes s′ (at + i)
+pub put-all : (s s′ : List ℕ) (bytes : Text) (at i : ℕ) → length bytes ≤ i → PutAt s at (take i bytes) s′ (at + i) → i ≤ length bytes
+    → PutAt s at bytes s′ (at + i)
 put-all s s′ bytes at i h w l = rw (take-all i bytes h) at w
 
 -- a number's digits
@@ -114,24 +114,24 @@ tens-short n h l =
     omega (arith, decimal-short n)
 
 -- writing a number: its last digit after the others
-pub wrote-digit : (s : List ℕ) (at n : ℕ) → n < 10 → Wrote s at (decimal n) (set s at (48 + n)) (at + 1)
+pub wrote-digit : (s : List ℕ) (at n : ℕ) → n < 10 → PutAt s at (decimal n) (set s at (48 + n)) (at + 1)
 wrote-digit s at n h = rw (decimal-digit n h) (wrote-byte s at (48 + n))
 
 module _ (s s′ : List ℕ) (at n end : ℕ) where
-  wrote-digits : 10 ≤ n → n < 2 ^ 64 → Wrote s at (decimal (n / 10)) s′ end → Wrote s at (decimal n) (set s′ end (48 + n % 10)) (end + 1)
+  wrote-digits : 10 ≤ n → n < 2 ^ 64 → PutAt s at (decimal (n / 10)) s′ end → PutAt s at (decimal n) (set s′ end (48 + n % 10)) (end + 1)
   wrote-digits h l w = rw (decimal-digits n h l) (wrote-then w (wrote-byte s′ end (48 + n % 10)))
 
-  pub wrote-number : 10 ≤ n → n < 2 ^ 64 → Wrote s at (decimal (n / 10)) s′ end
-      → Wrote s at (decimal n) (set s′ end (48 + n % 10)) (end + 1) × (end + 1 ≤ at + 20)
+  pub wrote-number : 10 ≤ n → n < 2 ^ 64 → PutAt s at (decimal (n / 10)) s′ end
+      → PutAt s at (decimal n) (set s′ end (48 + n % 10)) (end + 1) × (end + 1 ≤ at + 20)
   wrote-number h l w = (wrote-digits h l w, omega (arith, w .end-is, tens-short n h l))
 
-  pub tens-fit : 10 ≤ n → n < 2 ^ 64 → Wrote s at (decimal (n / 10)) s′ end → at + 20 ≤ length s → end < length s′
+  pub tens-fit : 10 ≤ n → n < 2 ^ 64 → PutAt s at (decimal (n / 10)) s′ end → at + 20 ≤ length s → end < length s′
   tens-fit h l w f = omega (arith, w .end-is, wrote-length w, tens-short n h l)
 
 -- the same bytes by another name
-pub wrote-as : {s s′ : List ℕ} {at at′ : ℕ} {xs ys : Text} → xs ≡ ys → Wrote s at xs s′ at′ → Wrote s at ys s′ at′
+pub wrote-as : {s s′ : List ℕ} {at at′ : ℕ} {xs ys : Text} → xs ≡ ys → PutAt s at xs s′ at′ → PutAt s at ys s′ at′
 wrote-as e w = rw e at w
 
 -- what is written is one buffer and one end
-pub wrote-once : {s s′ s″ : List ℕ} {at at′ at″ : ℕ} {xs : Text} → Wrote s at xs s′ at′ → Wrote s at xs s″ at″ → (s′ ≡ s″) × (at′ ≡ at″)
+pub wrote-once : {s s′ s″ : List ℕ} {at at′ at″ : ℕ} {xs : Text} → PutAt s at xs s′ at′ → PutAt s at xs s″ at″ → (s′ ≡ s″) × (at′ ≡ at″)
 wrote-once w m = (w .new-is ∙ sym (m .new-is), w .end-is ∙ sym (m .end-is))

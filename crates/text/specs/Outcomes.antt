@@ -6,12 +6,12 @@ use Rattle.text.specs.Reading.{Text, Reading, says, isnt, readText}
 use Rattle.text.specs.Readers.{finished, readingOf}
 use Rattle.text.specs.declared.reading.Reader.{Reader}
 
-abbrev pub planFor : Reading → Plan
-planFor (says ws) = plan ws
-planFor isnt = noPlan 1
+abbrev pub planOfReading : Reading → Plan
+planOfReading (says ws) = plan ws
+planOfReading isnt = noPlan 1
 
 unfoldable pub planOfText : Text → Plan
-planOfText text = planFor (readText text)
+planOfText text = planOfReading (readText text)
 
 -- what the program prints for a text
 unfoldable pub printed : Text → Text
@@ -19,4 +19,4 @@ printed text = planText (planOfText text)
 
 -- what it prints by what a reader has read, once the text has ended
 unfoldable pub replyTo : Reader → Text
-replyTo r = planText (planFor (readingOf (finished r)))
+replyTo r = planText (planOfReading (readingOf (finished r)))

@@ -25,12 +25,12 @@ unfoldable pub emptied : Reader → Reader
 emptied r = record { words = r .words; many = r .many; number = 0; begun = false; failed = r .failed }
 
 -- the number in hand is one of the words
-unfoldable pub kept : Reader → Reader
-kept r = record { words = set (r .words) (r .many) (r .number); many = r .many + 1; number = 0; begun = false; failed = r .failed }
+unfoldable pub noted : Reader → Reader
+noted r = record { words = set (r .words) (r .many) (r .number); many = r .many + 1; number = 0; begun = false; failed = r .failed }
 
 -- the number in hand has ended, and is kept while there is room
 unfoldable pub afterBlank : Reader → Reader
-afterBlank r = cond (r .begun) (cond (ltb (r .many) most) (kept r) (emptied r)) r
+afterBlank r = cond (r .begun) (cond (ltb (r .many) most) (noted r) (emptied r)) r
 
 -- the number in hand with one digit more
 unfoldable pub longer : Reader → ℕ → Reader

@@ -15,16 +15,16 @@ use Rattle.text.specs.Printing.{digits, decimal, commas, parted, setText
 use Rattle.text.specs.Outcomes.{planOfText, printed}
 
 -- A line of the table: the text of a sheet, and what is printed
-pub record Line : Type 0 where
+pub record WorkedText : Type 0 where
   pub sheet : String
   pub prints : String
 
 infix 10 _prints_
-abbrev pub _prints_ : String → String → Line
+abbrev pub _prints_ : String → String → WorkedText
 sheet prints text = record { sheet = sheet; prints = text }
 
-abbrev pub lines : List Line
-lines =
+abbrev pub workedTexts : List WorkedText
+workedTexts =
     -- the desk sheet
     ("4 3 2 5  4 3 3 3\n0 2 1 1  1 1 2 1  0 1 3 1\n1 2 7 7  2 1 20 29\n0 0  1 0  2 2  3 0  3 2\n8 8 8 8 8\n"
     prints "root 0 store 97\n0 kept 0 cols - dep 1,3 need -\n1 kept 1 cols 0,1 dep 2 need -\n2 kept 1 cols 0,2 dep - need 1\n3 kept 1 cols 0,2 dep - need -\n")
@@ -50,17 +50,17 @@ lines =
     ∷ ("1 0 0 1 2 0 1 3 +4" prints "refused 1\n")
     ∷ []
 
-abbrev got : Line → Text
+abbrev got : WorkedText → Text
 got l = printed (ascii (l .sheet))
 
-abbrev want : Line → Text
+abbrev want : WorkedText → Text
 want l = ascii (l .prints)
 
 -- antt computes a test, and the test's law turns it into the equation
-pub table : map got lines ≡ map want lines
+pub texts-print : map got workedTexts ≡ map want workedTexts
 unfolding
     cut sheetOf goodCounts goodEdge goodCondition goodListed goodWords goodTree sheetRefusal root edgeInto others dep
     depPlus need kept isShown shown columns size start storeLength inOrder tablePlan goodPlan plan isBlank isDigit
     onward value before pieces isSome decimals isNumber readText digits decimal commas parted setText setsText lineText
     tableText tablesText headText refusedText planText planOfText printed
-table = sameLists→≡ sameRow (sameLists→≡ eqb eqb→eq) (map got lines) (map want lines) tt
+texts-print = sameLists→≡ sameRow (sameLists→≡ eqb eqb→eq) (map got workedTexts) (map want workedTexts) tt

@@ -8,6 +8,6 @@ use lib.Seq.{sets}
 use Rattle.text.specs.Reading.{Text}
 
 -- these bytes stand from `at` on, up to `end`; all else is as it was
-pub record Wrote (old : List ℕ) (at : ℕ) (bytes : Text) (new : List ℕ) (end : ℕ) : Type 0 where
+pub record PutAt (old : List ℕ) (at : ℕ) (bytes : Text) (new : List ℕ) (end : ℕ) : Type 0 where
   pub new-is : new ≡ sets old at bytes
   pub end-is : end ≡ at + length bytes

@@ -10,12 +10,12 @@ ghost use Rattle.meaning.specs.Limits.{mostTables};
 ghost use Rattle.meaning.specs.Plan.{plan};
 ghost use Rattle.sheet_plan.specs.Marks.{markedIn};
 ghost use Rattle.text.specs.Laid.{setsIn, lineIn, linesIn, answerText};
-ghost use Rattle.text.specs.Writing.{Wrote};
+ghost use Rattle.text.specs.Writing.{PutAt};
 
 // Writes the bytes from `at` on, and answers where they end.
 fn put(bytes: &[u8], out: &mut [u8], at: usize) -> usize
     requires { ⌜ at + length (now bytes) ≤ length (now out) ⌝ }
-    ensures { λ r. ⌜ Wrote (now (out .entry)) at (now (bytes .entry)) (now (out .exit)) r ⌝ }
+    ensures { λ r. ⌜ PutAt (now (out .entry)) at (now (bytes .entry)) (now (out .exit)) r ⌝ }
 {
     let mut i = 0;
     while i < bytes.len() {
@@ -28,7 +28,7 @@ fn put(bytes: &[u8], out: &mut [u8], at: usize) -> usize
 // Writes a number's digits, at most 20.
 fn put_number(n: u64, out: &mut [u8], at: usize) -> usize
     requires { ⌜ at + 20 ≤ length (now out) ⌝ }
-    ensures { λ r. ⌜ Wrote (now (out .entry)) at (decimal n) (now (out .exit)) r ⌝ }
+    ensures { λ r. ⌜ PutAt (now (out .entry)) at (decimal n) (now (out .exit)) r ⌝ }
     ensures { λ r. ⌜ r ≤ at + 20 ⌝ }
 {
     if n < 10 {
@@ -44,7 +44,7 @@ fn put_number(n: u64, out: &mut [u8], at: usize) -> usize
 fn put_member(x: u8, out: &mut [u8], from: usize, at: usize) -> usize
     requires { ⌜ x < 10 ⌝ }
     requires { ⌜ at + 2 ≤ length (now out) ⌝ }
-    ensures { λ r. ⌜ Wrote (now (out .entry)) at (memberText (ltb from at) x) (now (out .exit)) r ⌝ }
+    ensures { λ r. ⌜ PutAt (now (out .entry)) at (memberText (ltb from at) x) (now (out .exit)) r ⌝ }
 {
     if from < at {
         out[at] = b',';
@@ -59,7 +59,7 @@ fn put_member(x: u8, out: &mut [u8], from: usize, at: usize) -> usize
 fn put_set(marks: &[u64], t: usize, out: &mut [u8], at: usize) -> usize
     requires { ⌜ 8 * t + 8 ≤ length (now marks) ⌝ }
     requires { ⌜ at + 16 ≤ length (now out) ⌝ }
-    ensures { λ r. ⌜ Wrote (now (out .entry)) at (setText (markedIn (now (marks .entry)) t)) (now (out .exit)) r ⌝ }
+    ensures { λ r. ⌜ PutAt (now (out .entry)) at (setText (markedIn (now (marks .entry)) t)) (now (out .exit)) r ⌝ }
     ensures { λ r. ⌜ r ≤ at + 16 ⌝ }
 {
     let mut end = at;
@@ -82,7 +82,7 @@ fn put_set(marks: &[u64], t: usize, out: &mut [u8], at: usize) -> usize
 fn put_field(name: &[u8], n: u64, out: &mut [u8], at: usize) -> usize
     requires { ⌜ length (now name) ≤ 8 ⌝ }
     requires { ⌜ at + 28 ≤ length (now out) ⌝ }
-    ensures { λ r. ⌜ Wrote (now (out .entry)) at (now (name .entry) ++ decimal n) (now (out .exit)) r ⌝ }
+    ensures { λ r. ⌜ PutAt (now (out .entry)) at (now (name .entry) ++ decimal n) (now (out .exit)) r ⌝ }
     ensures { λ r. ⌜ r ≤ at + 28 ⌝ }
 {
     let end = put(name, out, at);
@@ -94,7 +94,7 @@ fn put_named(name: &[u8], marks: &[u64], t: usize, out: &mut [u8], at: usize) ->
     requires { ⌜ 8 * t + 8 ≤ length (now marks) ⌝ }
     requires { ⌜ length (now name) ≤ 6 ⌝ }
     requires { ⌜ at + 22 ≤ length (now out) ⌝ }
-    ensures { λ r. ⌜ Wrote (now (out .entry)) at (now (name .entry) ++ setText (markedIn (now (marks .entry)) t)) (now (out .exit)) r ⌝ }
+    ensures { λ r. ⌜ PutAt (now (out .entry)) at (now (name .entry) ++ setText (markedIn (now (marks .entry)) t)) (now (out .exit)) r ⌝ }
     ensures { λ r. ⌜ r ≤ at + 22 ⌝ }
 {
     let end = put(name, out, at);
@@ -113,7 +113,7 @@ fn put_sets(
     requires { ⌜ 8 * t + 8 ≤ length (now dep) ⌝ }
     requires { ⌜ 8 * t + 8 ≤ length (now need) ⌝ }
     requires { ⌜ at + 66 ≤ length (now out) ⌝ }
-    ensures { λ r. ⌜ Wrote (now (out .entry)) at (setsIn (now (columns .entry)) (now (dep .entry)) (now (need .entry)) t) (now (out .exit)) r ⌝ }
+    ensures { λ r. ⌜ PutAt (now (out .entry)) at (setsIn (now (columns .entry)) (now (dep .entry)) (now (need .entry)) t) (now (out .exit)) r ⌝ }
     ensures { λ r. ⌜ r ≤ at + 66 ⌝ }
 {
     let a = put_named(b" cols ", columns, t, out, at);
@@ -135,7 +135,7 @@ fn put_line(
     requires { ⌜ 8 * t + 8 ≤ length (now dep) ⌝ }
     requires { ⌜ 8 * t + 8 ≤ length (now need) ⌝ }
     requires { ⌜ at + 115 ≤ length (now out) ⌝ }
-    ensures { λ r. ⌜ Wrote (now (out .entry)) at (lineIn t kept (now (columns .entry)) (now (dep .entry)) (now (need .entry))) (now (out .exit)) r ⌝ }
+    ensures { λ r. ⌜ PutAt (now (out .entry)) at (lineIn t kept (now (columns .entry)) (now (dep .entry)) (now (need .entry))) (now (out .exit)) r ⌝ }
     ensures { λ r. ⌜ r ≤ at + 115 ⌝ }
 {
     let a = put_number(t as u64, out, at);
@@ -146,7 +146,7 @@ fn put_line(
 
 fn put_head(root: u64, store: u64, out: &mut [u8], at: usize) -> usize
     requires { ⌜ at + 57 ≤ length (now out) ⌝ }
-    ensures { λ r. ⌜ Wrote (now (out .entry)) at (headText root store) (now (out .exit)) r ⌝ }
+    ensures { λ r. ⌜ PutAt (now (out .entry)) at (headText root store) (now (out .exit)) r ⌝ }
     ensures { λ r. ⌜ r ≤ at + 57 ⌝ }
 {
     let a = put_field(b"root ", root, out, at);
@@ -156,7 +156,7 @@ fn put_head(root: u64, store: u64, out: &mut [u8], at: usize) -> usize
 
 fn put_refused(number: u64, out: &mut [u8], at: usize) -> usize
     requires { ⌜ at + 29 ≤ length (now out) ⌝ }
-    ensures { λ r. ⌜ Wrote (now (out .entry)) at (refusedText number) (now (out .exit)) r ⌝ }
+    ensures { λ r. ⌜ PutAt (now (out .entry)) at (refusedText number) (now (out .exit)) r ⌝ }
     ensures { λ r. ⌜ r ≤ at + 29 ⌝ }
 {
     let a = put_field(b"refused ", number, out, at);
@@ -179,7 +179,7 @@ fn put_lines(
     requires { ⌜ 8 * n ≤ length (now need) ⌝ }
     requires { ⌜ at + 115 * n ≤ length (now out) ⌝ }
     ensures { λ r.
-        ⌜ Wrote (now (out .entry)) at (linesIn (now (kept .entry)) (now (columns .entry)) (now (dep .entry)) (now (need .entry)) n) (now (out .exit)) r ⌝ }
+        ⌜ PutAt (now (out .entry)) at (linesIn (now (kept .entry)) (now (columns .entry)) (now (dep .entry)) (now (need .entry)) n) (now (out .exit)) r ⌝ }
     ensures { λ r. ⌜ r ≤ at + 115 * n ⌝ }
 {
     let mut end = at;
@@ -198,7 +198,7 @@ pub const PAGE: usize = 1024;
 fn put_plan(a: PlanAnswer, out: &mut [u8]) -> usize
     requires { ⌜ a .tables ≤ mostTables ⌝ }
     requires { ⌜ 1024 ≤ length (now out) ⌝ }
-    ensures { λ r. ⌜ Wrote (now (out .entry)) 0 (answerText a) (now (out .exit)) r ⌝ }
+    ensures { λ r. ⌜ PutAt (now (out .entry)) 0 (answerText a) (now (out .exit)) r ⌝ }
     ensures { λ r. ⌜ r ≤ 1024 ⌝ }
 {
     if a.number != 0 {
@@ -214,7 +214,7 @@ fn put_plan(a: PlanAnswer, out: &mut [u8]) -> usize
 
 // Writes the plan of any words, or `refused` and the number. There is room for every plan.
 pub fn put_plan_of(sheet: &[u64], out: &mut [u8; PAGE]) -> usize
-    ensures { λ r. ⌜ Wrote (now (out .entry)) 0 (planText (plan (now (sheet .entry)))) (now (out .exit)) r ⌝ }
+    ensures { λ r. ⌜ PutAt (now (out .entry)) 0 (planText (plan (now (sheet .entry)))) (now (out .exit)) r ⌝ }
     ensures { λ r. ⌜ r ≤ 1024 ⌝ }
 {
     let a = plan_answer::plan_of(sheet);
@@ -223,7 +223,7 @@ pub fn put_plan_of(sheet: &[u64], out: &mut [u8; PAGE]) -> usize
 
 // Writes the refusal of a text that isn't such numbers.
 pub fn put_unread(out: &mut [u8; PAGE]) -> usize
-    ensures { λ r. ⌜ Wrote (now (out .entry)) 0 (refusedText 1) (now (out .exit)) r ⌝ }
+    ensures { λ r. ⌜ PutAt (now (out .entry)) 0 (refusedText 1) (now (out .exit)) r ⌝ }
     ensures { λ r. ⌜ r ≤ 1024 ⌝ }
 {
     put_refused(1, out, 0)

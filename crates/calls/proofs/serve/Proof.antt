@@ -7,7 +7,10 @@ use lib.ListN.{length}
 use mathlib.Core.Path.{_≡_}
 
 abbrev Inv-loop : tie.InvT-loop
-Inv-loop bytes₀ sheet₀ base₀ store₀ old₀ new₀ turns₀ bytes sheet base store old new turns = (length bytes ≡ length bytes₀) × ((length sheet ≡ length sheet₀) × ((length base ≡ length base₀) × ((length store ≡ length store₀) × ((length old ≡ length old₀) × (length new ≡ length new₀)))))
+Inv-loop bytes₀ sheet₀ base₀ store₀ old₀ new₀ turns₀ bytes sheet base store old new turns =
+    (length bytes ≡ length bytes₀)
+    × ((length sheet ≡ length sheet₀)
+    × ((length base ≡ length base₀) × ((length store ≡ length store₀) × ((length old ≡ length old₀) × (length new ≡ length new₀)))))
 
 abbrev μ-loop : tie.MeasureT-loop
 μ-loop bytes₀ sheet₀ base₀ store₀ old₀ new₀ turns₀ bytes sheet base store old new turns = turns

@@ -1,8 +1,6 @@
--- `in_condition` meets its contract.
--- Assumes nothing.
-use Rattle.change_asked.proofs.Tests.{on-yes, on-other, on-elsewhere}
 -- `in_condition` meets its contract. The loop's invariant: no condition before k speaks of the column.
 -- Assumes nothing.
+use Rattle.change_asked.proofs.Tests.{on-yes, on-other, on-elsewhere}
 use Prim.Native.Nat.{_≤_, _-_}
 use mathlib.Core.Path.{_≡_, sym}
 use mathlib.Core.Bool.{false}

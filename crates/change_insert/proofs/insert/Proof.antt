@@ -65,29 +65,20 @@ part-of-requires c κs = search needs
 
 mul-count : tie.Need-mul-count
 mul-count c =
-    let w =
-    list-within
-    (ready-list (c .before .before .before .before .before .before .before .before .before .before .before .before .before .before .before .before .pre .0) _
-    (c .part-of .ensures))
-    (ready-ground (c .before .before .before .before .before .before .before .before .before .before .before .before .before .before .before .before .pre .0)
-    .legible .laid) in
+    let at-start = c .before .before .before .before .before .before .before .before .before .before .before .before .before .before .before .before in
+    let w = list-within (ready-list (at-start .pre .0) _ (c .part-of .ensures)) (ready-ground (at-start .pre .0) .legible .laid) in
     omega (arith, w .counted)
 
 slice-read-count : tie.Need-slice-read-count
 slice-read-count c =
-    let w =
-    list-within
-    (ready-list
-    (c .before .before .before .before .before .before .before .before .before .before .before .before .before .before .before .before .before .pre .0) _
-    (c .before .part-of .ensures))
-    (ready-ground
-    (c .before .before .before .before .before .before .before .before .before .before .before .before .before .before .before .before .before .pre .0)
-    .legible .laid) in
+    let at-start = c .before .before .before .before .before .before .before .before .before .before .before .before .before .before .before .before .before in
+    let w = list-within (ready-list (at-start .pre .0) _ (c .before .part-of .ensures)) (ready-ground (at-start .pre .0) .legible .laid) in
     omega (arith, w .counted, w .behind, w .ends)
 
 count-ways-requires : tie.Need-count-ways-requires
 count-ways-requires c κs =
-    let at-start = c .before .before .before .before .before .before .before .before .before .before .before .before .before .before .before .before .before .before .before .before .before .before .before in
+    let at-part-of = c .before .before .before .before .before .before .before in
+    let at-start = at-part-of .before .before .before .before .before .before .before .before .before .before .before .before .before .before .before .before in
     (ready-ground (at-start .pre .0), at-start .pre .1)
 
 sub-if4 : tie.Need-sub-if4

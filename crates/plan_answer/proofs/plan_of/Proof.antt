@@ -1,7 +1,7 @@
 -- `plan_of` meets its contract: the plan laid out for a good verdict, and the number alone for a refusal.
 -- Assumes nothing.
 use mathlib.Core.Path.{ap, _∙_}
-use Rattle.sheet.specs.Verdicts.{numberOf}
+use Rattle.sheet.specs.Verdicts.{verdictNumber}
 use Rattle.plan_answer.specs.Answers.{refusedAnswer}
 use Rattle.plan_answer.proofs.Laid.{sheet-good, plan-good, plan-refused, answerable}
 use borrow.Author.Needs.{needs}
@@ -29,7 +29,7 @@ returns c =
     let at-refused = at-number .before in
     let at-check = at-refused .before .before .before in
     let told = at-refused .enum-told2 .given .1 in
-    plan-refused _ _ (at-check .check .ensures) _ _ told (c .refused-answer .ensures ∙ ap refusedAnswer (at-number .number-of .ensures ∙ ap numberOf told))
+    plan-refused _ _ (at-check .check .ensures) _ _ told (c .refused-answer .ensures ∙ ap refusedAnswer (at-number .number-of .ensures ∙ ap verdictNumber told))
 
 dep-marks-requires : tie.Need-dep-marks-requires
 dep-marks-requires c κs = sheet-good _ _ (c .before .before .before .check .ensures) (c .enum-told .given .1)

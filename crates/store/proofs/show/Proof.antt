@@ -6,7 +6,7 @@ use mathlib.Core.Path.{refl}
 use Rattle.store.proofs.Plans.{few}
 use Rattle.store.proofs.Checks.{check-of, check-some}
 use Rattle.store.proofs.Shows.{none-back, rows-back}
-use Rattle.store.proofs.Showing.{Shown, stretch-ends, show-refused, show-length, show-number, show-unsound, show-part}
+use Rattle.store.proofs.Showing.{ShownPart, stretch-ends, show-refused, show-length, show-number, show-unsound, show-part}
 use borrow.Author.Needs.{needs}
 use native.Mathlib.Omega.{arith}
 use Rattle.store.proofs.show.Statement.{statement}
@@ -82,7 +82,7 @@ part-of-requires c κs =
 -- the part that is shown
 shown : (c : tie.After-part-of)
     → let given = c .before .before .before .before .before .before .before .before .before .before .before .before .args in
-    Shown (given .sheet .now) (given .store .now) (given .number) (c .part-of .result)
+    ShownPart (given .sheet .now) (given .store .now) (given .number) (c .part-of .result)
 shown c =
     let at-sound = c .before in
     let at-number = at-sound .before .before in

@@ -7,7 +7,7 @@ use lib.ListN.{length}
 use Rattle.lists.specs.Loops.{every}
 use Rattle.lists.proofs.Loops.{every-more}
 use Rattle.rows.specs.Words.{row}
-use Rattle.list_part.specs.Gives.{showsAt}
+use Rattle.list_part.specs.Gives.{showsWord}
 use Rattle.list_part.proofs.Words.{column-in, row-in, shows-own, shows-other, shows-not, shows-end}
 use borrow.Author.Needs.{needs}
 use native.Mathlib.Omega.{arith}
@@ -15,7 +15,7 @@ use Rattle.list_part.proofs.columns.shows_row.Statement.{statement}
 use Rattle.list_part.proofs.columns.shows_row.Tie as tie
 
 abbrev Inv-loop : tie.InvT-loop
-Inv-loop sheet s i t r p base k₀ k = (k ≤ p) × (i * p + p ≤ length s) × (every (showsAt sheet t r (row p i s)) k ≡ true)
+Inv-loop sheet s i t r p base k₀ k = (k ≤ p) × (i * p + p ≤ length s) × (every (showsWord sheet t r (row p i s)) k ≡ true)
 
 abbrev μ-loop : tie.MeasureT-loop
 μ-loop sheet s i t r p base k₀ k = p - k

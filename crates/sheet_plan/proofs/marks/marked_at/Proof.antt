@@ -4,7 +4,7 @@ use Prim.Native.Nat.{_≤_, _-_}
 use mathlib.Core.Path.{_≡_}
 use Rattle.sheet.specs.Counted.{counted}
 use Rattle.sheet.proofs.Numbers.{counted-hit, counted-miss, counted-end}
-use Rattle.sheet_plan.specs.Marks.{marked}
+use Rattle.sheet_plan.specs.Marks.{hasMark}
 use Rattle.sheet_plan.proofs.Steps.{marked-found, marked-past, marked-yes, marked-no}
 use borrow.Author.Needs.{needs}
 use native.Mathlib.Omega.{arith}
@@ -12,7 +12,7 @@ use Rattle.sheet_plan.proofs.marks.marked_at.Statement.{statement}
 use Rattle.sheet_plan.proofs.marks.marked_at.Tie as tie
 
 abbrev Inv-loop : tie.InvT-loop
-Inv-loop t j marks many₀ k₀ many k = (k ≤ 8) × ((many ≤ j) × ((many ≤ k) × (many ≡ counted (marked marks t) k)))
+Inv-loop t j marks many₀ k₀ many k = (k ≤ 8) × ((many ≤ j) × ((many ≤ k) × (many ≡ counted (hasMark marks t) k)))
 
 abbrev μ-loop : tie.MeasureT-loop
 μ-loop t j marks many₀ k₀ many k = 8 - k

@@ -4,13 +4,13 @@ use lib.ListN.{length-set, length, take}
 use Rattle.text.proofs.Writes.{put-none, put-all, put-more}
 use Prim.Native.Nat.{_+_, _≤_, _-_}
 use mathlib.Core.Path.{_≡_, refl}
-use Rattle.text.specs.Writing.{Wrote}
+use Rattle.text.specs.Writing.{PutAt}
 use borrow.Author.Needs.{needs}
 use Rattle.text.proofs.printing.put.Statement.{statement}
 use Rattle.text.proofs.printing.put.Tie as tie
 
 abbrev Inv-loop : tie.InvT-loop
-Inv-loop bytes out₀ at i₀ out i = (i ≤ length bytes) × (length out ≡ length out₀) × Wrote out₀ at (take i bytes) out (at + i)
+Inv-loop bytes out₀ at i₀ out i = (i ≤ length bytes) × (length out ≡ length out₀) × PutAt out₀ at (take i bytes) out (at + i)
 
 abbrev μ-loop : tie.MeasureT-loop
 μ-loop bytes out₀ at i₀ out i = length bytes - i

@@ -4,7 +4,7 @@ use Prim.Native.Nat.{_+_, _*_, _≤_, _-_}
 use mathlib.Core.Path.{_≡_, refl}
 use lib.ListN.{length}
 use Rattle.text.specs.Laid.{lineOf, linesIn}
-use Rattle.text.specs.Writing.{Wrote}
+use Rattle.text.specs.Writing.{PutAt}
 use Rattle.text.proofs.Lines.{lines-none, lines-more, lines-end}
 use borrow.Author.Needs.{needs}
 use native.Mathlib.Omega.{arith}
@@ -13,7 +13,7 @@ use Rattle.text.proofs.printing.put_lines.Tie as tie
 
 abbrev Inv-loop : tie.InvT-loop
 Inv-loop n kept columns dep need out₀ at end₀ t₀ out end t =
-    (t ≤ n) × (length out ≡ length out₀) × (end ≤ at + 115 * t) × Wrote out₀ at (linesIn kept columns dep need t) out end
+    (t ≤ n) × (length out ≡ length out₀) × (end ≤ at + 115 * t) × PutAt out₀ at (linesIn kept columns dep need t) out end
 
 abbrev μ-loop : tie.MeasureT-loop
 μ-loop n kept columns dep need out₀ at end₀ t₀ out end t = n - t

@@ -3,21 +3,21 @@
 use Prim.Native.Nat.{_≤_, _-_}
 use lib.ListN.{length-set}
 use borrow.Author.Tests.{eq-eqb, ne-eqb}
-use Rattle.sheet_plan.specs.Marks.{marked, markedIn}
-use Rattle.text.proofs.Sets.{Passed, passed-none, passed-over, passed-in, set-none, set-some}
+use Rattle.sheet_plan.specs.Marks.{hasMark, markedIn}
+use Rattle.text.proofs.Sets.{PassingPut, passing-none, passing-over, passing-in, set-none, set-some}
 use borrow.Author.Needs.{needs}
 use native.Mathlib.Omega.{arith}
 use Rattle.text.proofs.printing.put_set.Statement.{statement}
 use Rattle.text.proofs.printing.put_set.Tie as tie
 
 abbrev Inv-loop : tie.InvT-loop
-Inv-loop marks t out₀ at end₀ i₀ out end i = (i ≤ 8) × Passed (marked marks t) out₀ at i out end
+Inv-loop marks t out₀ at end₀ i₀ out end i = (i ≤ 8) × PassingPut (hasMark marks t) out₀ at i out end
 
 abbrev μ-loop : tie.MeasureT-loop
 μ-loop marks t out₀ at end₀ i₀ out end i = 8 - i
 
 loop-holds : tie.Need-loop-holds Inv-loop μ-loop
-loop-holds c = (search needs, passed-none _ _ _)
+loop-holds c = (search needs, passing-none _ _ _)
 
 add-i : tie.Need-add-i Inv-loop μ-loop
 add-i c = search needs
@@ -44,18 +44,18 @@ loop-less : tie.Need-loop-less Inv-loop μ-loop
 loop-less c = search needs
 
 loop-again : tie.Need-loop-again Inv-loop μ-loop
-unfolding marked
+unfolding hasMark
 loop-again c =
     let turn = c .before .before .before .before .before .before .before .loop in
     let marked-so = eq-eqb _ _ (c .before .before .before .before .if1 .taken) in
-    (search needs, passed-in _ _ _ _ _ _ (turn .inv .1) marked-so (omega arith) _ _ (c .before .before .put-member .ensures))
+    (search needs, passing-in _ _ _ _ _ _ (turn .inv .1) marked-so (omega arith) _ _ (c .before .before .put-member .ensures))
 
 loop-less-2 : tie.Need-loop-less-2 Inv-loop μ-loop
 loop-less-2 c = search needs
 
 loop-again-2 : tie.Need-loop-again-2 Inv-loop μ-loop
-unfolding marked
-loop-again-2 c = (search needs, passed-over _ _ _ _ _ _ (c .before .before .before .loop .inv .1) (ne-eqb _ _ (c .if1 .left)))
+unfolding hasMark
+loop-again-2 c = (search needs, passing-over _ _ _ _ _ _ (c .before .before .before .loop .inv .1) (ne-eqb _ _ (c .if1 .left)))
 
 slice-write-out : tie.Need-slice-write-out Inv-loop μ-loop
 slice-write-out c = omega arith

@@ -1,6 +1,6 @@
 -- `Reader::take_blank` meets its contract: nothing in hand, no room left, or one word more.
 -- Assumes nothing.
-use Rattle.text.specs.Readers.{kept, emptied}
+use Rattle.text.specs.Readers.{noted, emptied}
 use Rattle.text.proofs.Bytes.{blank-none, blank-full, blank-kept}
 use borrow.Author.Needs.{needs}
 use Rattle.text.proofs.reading.Reader.take_blank.Statement.{statement}
@@ -23,7 +23,7 @@ add-self : tie.Need-add-self
 add-self c = search needs
 
 returns-3 : tie.Need-returns-3
-unfolding kept
+unfolding noted
 returns-3 c = blank-kept (c .before .before .args .t1) (c .before .if1 .left) (c .if2 .left)
 
 pub take-blank-spec : {M : Type 1} → statement M
