@@ -25,14 +25,14 @@ use Rattle.store.specs.declared.Part.{Part}
 use Rattle.store.specs.declared.Answer.the-variants.{Done, Refused}
 use Rattle.store.specs.Parts.{rowsIn, countIn, Lies, Wrote}
 use Rattle.store.proofs.Answers.{says-refused}
-use Rattle.store.proofs.Lying.{count-is, rows-is}
+use Rattle.store.proofs.Lying.{count-is}
 use Rattle.list_part.proofs.Lists.{list-room}
 use Rattle.change_laws.specs.Ready.{Ready}
 use Rattle.change_added.specs.Adding.{Adding}
 use Rattle.side_table.specs.Sides.{hasRoom, Sided}
 use Rattle.side_table.proofs.Tests.{room-full, room-free}
-use Rattle.change_laws.proofs.Answers.{says-nothing, says-all}
-use Rattle.change_laws.proofs.Halves.{ready-good, ready-table, half-side, both-words}
+use Rattle.change_laws.proofs.Answers.{says-nothing}
+use Rattle.change_laws.proofs.Halves.{ready-good, ready-table, half-side, says-both}
 use Rattle.change_insert.specs.Inserts.{Inserts}
 
 -- All tests let the insert pass: its key is new, it is qualified, and its side table and the list have room for what k ways give
@@ -145,11 +145,7 @@ module _ {ws store : Words} {plan : Plan} {t : ℕ} {r : Row} {list : Part} {k :
         let rd = p .ready in
         let l = ready-table rd (p .lent) in
         let rows = walkRows s (modelOf s store) t r in
-        let listed = sorted (rowsAt s store (s .n) ++ rows) in
-        let wrote : Wrote list listed store mid =
-        subst (λ (l : Rows). Wrote list (sorted (l ++ rows)) store mid) (rows-is s (s .n) list (p .lies) store) w in
         record {
-          says = λ o. says-all s store t 0 (length rows) (putRows (sideRow s t r) (rowsAt s store t)) listed (applied s store (made 1 t o r)) 0 k exit
-              (insert-done s (ready-good rd) store (rd .sound) t l o r (p .new) (p .fine) (room-free s store t (p .free)) (p .left)) refl (p .many)
-              (both-words rd list (p .lies) listed mid wrote t l (putRows (sideRow s t r)) exit si 0 (length rows));
+          says = λ o. says-both rd list (p .lies) (λ (l : Rows). sorted (l ++ rows)) (putRows (sideRow s t r)) mid exit w t l si _ _ _ _ _
+              (insert-done s (ready-good rd) store (rd .sound) t l o r (p .new) (p .fine) (room-free s store t (p .free)) (p .left)) refl (p .many);
         }
