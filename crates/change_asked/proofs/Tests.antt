@@ -1,6 +1,6 @@
 -- The tests of refusals 5 and 6 as the code makes them.
 -- Assumes nothing.
-use Prim.Native.Nat.{ℕ, _+_, _<_, _≤_}
+use Prim.Native.Nat.{ℕ, _<_, _≤_}
 use mathlib.Core.Path.{_≡_, refl, sym, ap, ap₂, _∙_}
 use mathlib.Core.Bool.{Bool, true, false, cond, not, _&&_, _||_, and-comm, and-false}
 use native.Mathlib.Omega.{arith}

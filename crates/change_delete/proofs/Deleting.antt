@@ -4,16 +4,15 @@ use Prim.Native.Nat.{ℕ}
 use mathlib.Core.Path.{_≡_, refl, sym, _∙_, subst}
 use mathlib.Core.Bool.{Bool, true, false, not}
 use native.Mathlib.Omega.{arith}
-use lib.ListN.{length}
 use borrow.Author.Tests.{not-true, not-false}
 use Rattle.lists.specs.Lists.{Words}
-use Rattle.rows.specs.Rows.{Row, Rows, takeRows}
+use Rattle.rows.specs.Rows.{Row, takeRows}
 use Rattle.rows.specs.Marks.{unmarked}
 use Rattle.meaning.specs.Sheet.{sheetOf}
-use Rattle.meaning.specs.Store.{rowsAt, modelOf}
+use Rattle.meaning.specs.Store.{modelOf}
 use Rattle.meaning.specs.Change.{qualifies, sideRow, oldRow}
 use Rattle.meaning.specs.Base.{changeOf}
-use Rattle.effects.specs.Applied.{applied, walkRows}
+use Rattle.effects.specs.Applied.{applied}
 use Rattle.effects.proofs.Deletes.{delete-contradicts-side, delete-none, delete-contradicts-list, delete-done}
 use Rattle.sheet_plan.specs.declared.Plan.{Plan}
 use Rattle.walk.specs.Grounds.{Lent}
@@ -21,11 +20,10 @@ use Rattle.store.specs.declared.Part.{Part}
 use Rattle.store.specs.declared.Answer.the-variants.{Done, Refused}
 use Rattle.store.specs.Parts.{rowsIn, Lies, Wrote}
 use Rattle.store.proofs.Answers.{says-refused}
-use Rattle.store.proofs.Lying.{rows-is}
 use Rattle.side_table.specs.Sides.{Sided}
 use Rattle.change_laws.specs.Ready.{Ready}
-use Rattle.change_laws.proofs.Answers.{says-nothing, says-all}
-use Rattle.change_laws.proofs.Halves.{ready-good, ready-table, both-words}
+use Rattle.change_laws.proofs.Answers.{says-nothing}
+use Rattle.change_laws.proofs.Halves.{ready-good, ready-table, says-both}
 use Rattle.change_taken.specs.declared.Taken.{Taken}
 use Rattle.change_taken.specs.declared.Taken.the-variants.{All, Contrary}
 use Rattle.change_taken.specs.Taking.{WaysTaken}
@@ -73,13 +71,9 @@ module _ {ws store : Words} {plan : Plan} (rd : Ready ws store plan) {t : ℕ} {
               → Deletes ws store t r (Done k 0) exit
           deletes-done k e exit si =
               let s = sheetOf ws in
+              let l = ready-table rd lent in
               let so = subst (WaysTaken ws store t r marks) e m in
-              let left = unmarked marks (rowsAt s store (s .n)) in
-              let many = length (walkRows s (modelOf s store) t r) in
-              let wrote : Wrote list left store mid =
-              subst (λ (rows : Rows). Wrote list (unmarked marks rows) store mid) (rows-is s (s .n) list lies store) w in
               record {
-                says = λ o. says-all s store t many 0 (takeRows (sideRow s t r) (rowsAt s store t)) left (applied s store (changeOf 2 t r o)) k 0 exit
-                    (delete-done s (ready-good rd) store (rd .sound) t (ready-table rd lent) r o old fine marks (so .1)) (so .0) refl
-                    (both-words rd list lies left mid wrote t (ready-table rd lent) (takeRows (sideRow s t r)) exit si many 0);
+                says = λ o. says-both rd list lies (unmarked marks) (takeRows (sideRow s t r)) mid exit w t l si _ _ _ _ _
+                    (delete-done s (ready-good rd) store (rd .sound) t l r o old fine marks (so .1)) (so .0) refl;
               }

@@ -25,15 +25,26 @@ use Rattle.store.specs.declared.Part.{Part}
 use Rattle.store.specs.declared.Answer.the-variants.{Done, Refused}
 use Rattle.store.specs.Parts.{rowsIn, countIn, Lies, Wrote}
 use Rattle.store.proofs.Answers.{says-refused}
-use Rattle.store.proofs.Lying.{count-is, rows-is}
+use Rattle.store.proofs.Lying.{count-is}
 use Rattle.list_part.proofs.Lists.{list-room}
 use Rattle.change_laws.specs.Ready.{Ready}
 use Rattle.change_added.specs.Adding.{Adding}
 use Rattle.side_table.specs.Sides.{hasRoom, Sided}
 use Rattle.side_table.proofs.Tests.{room-full, room-free}
-use Rattle.change_laws.proofs.Answers.{says-nothing, says-all}
-use Rattle.change_laws.proofs.Halves.{ready-good, ready-table, half-side, both-words}
+use Rattle.change_laws.proofs.Answers.{says-nothing}
+use Rattle.change_laws.proofs.Halves.{ready-good, ready-table, half-side, says-both}
 use Rattle.change_insert.specs.Inserts.{Inserts}
+
+-- All tests let the insert pass: its key is new, it is qualified, and its side table and the list have room for what k ways give
+pub record Insertable (ws store : Words) (plan : Plan) (t : ℕ) (r : Row) (list : Part) (k : ℕ) : Type 0 where
+  pub ready : Ready ws store plan
+  pub lent : Lent ws t r
+  pub new : hasKey (key r) (rowsAt (sheetOf ws) store t) ≡ false
+  pub fine : qualifies (sheetOf ws) (modelOf (sheetOf ws) store) t r ≡ true
+  pub free : T (hasRoom (sheetOf ws) store t)
+  pub lies : Lies (sheetOf ws) (sheetOf ws .n) list
+  pub many : k ≡ length (walkRows (sheetOf ws) (modelOf (sheetOf ws) store) t r)
+  pub left : length (walkRows (sheetOf ws) (modelOf (sheetOf ws) store) t r) + count (sheetOf ws) store (sheetOf ws .n) ≤ room (sheetOf ws) (sheetOf ws .n)
 
 module _ {ws store : Words} {plan : Plan} (rd : Ready ws store plan) {t : ℕ} {r : Row} (lent : Lent ws t r) where
   key-is : (b : Bool) → b ≡ newKey (modelOf (sheetOf ws) store) t r → b ≡ not (hasKey (key r) (rowsAt (sheetOf ws) store t))
@@ -98,38 +109,43 @@ module _ {ws store : Words} {plan : Plan} (rd : Ready ws store plan) {t : ℕ} {
                         (insert-no-room-list s (ready-good rd) store (rd .sound) t (ready-table rd lent) o r new fine more);
                   }
 
-              module _ (enough : k ≤ list .room - countIn list store) where
-                left : length (walkRows (sheetOf ws) (modelOf (sheetOf ws) store) t r) + count (sheetOf ws) store (sheetOf ws .n)
-                    ≤ room (sheetOf ws) (sheetOf ws .n)
-                left = omega (arith, lies .room-is, listed-is, many, list-fits)
+              -- or all tests let it pass
+              pub insertable : k ≤ list .room - countIn list store → Insertable ws store plan t r list k
+              insertable enough =
+                  record {
+                    ready = rd;
+                    lent = lent;
+                    new = new;
+                    fine = fine;
+                    free = isT (sym ec ∙ not-false c free);
+                    lies = lies;
+                    many = many;
+                    left = omega (arith, lies .room-is, listed-is, many, list-fits);
+                  }
 
-                pub adding : Adding ws store list t r
-                adding = record { sound = rd .sound; lies = lies; room = left }
+module _ {ws store : Words} {plan : Plan} {t : ℕ} {r : Row} {list : Part} {k : ℕ} (p : Insertable ws store plan t r list k) where
+  pub adding : Adding ws store list t r
+  adding = record { sound = p .ready .sound; lies = p .lies; room = p .left }
 
-                has-room : T (hasRoom (sheetOf ws) store t)
-                has-room = isT (sym ec ∙ not-false c free)
+  -- when the list has its rows
+  module _ (mid : Words) (w : Wrote list (sorted (rowsIn list store ++ walkRows (sheetOf ws) (modelOf (sheetOf ws) store) t r)) store mid) where
+    pub half-room : T (hasRoom (sheetOf ws) mid t)
+    unfolding hasRoom
+    half-room =
+        let s = sheetOf ws in
+        let listed = sorted (rowsIn list store ++ walkRows s (modelOf s store) t r) in
+        let side = half-side (p .ready) list (p .lies) listed mid w t (ready-table (p .ready) (p .lent)) in
+        let same : count s mid t ≡ count s store t = sym (rows-count s mid t) ∙ ap length side ∙ rows-count s store t in
+        subst (λ (n : ℕ). T (not (kept s t) || ltb n (room s t))) (sym same) (p .free)
 
-                -- when the list has its rows
-                module _ (mid : Words) (w : Wrote list (sorted (rowsIn list store ++ walkRows (sheetOf ws) (modelOf (sheetOf ws) store) t r)) store mid) where
-                  pub half-room : T (hasRoom (sheetOf ws) mid t)
-                  unfolding hasRoom
-                  half-room =
-                      let s = sheetOf ws in
-                      let side = half-side rd list lies (sorted (rowsIn list store ++ walkRows s (modelOf s store) t r)) mid w t (ready-table rd lent) in
-                      let same : count s mid t ≡ count s store t = sym (rows-count s mid t) ∙ ap length side ∙ rows-count s store t in
-                      subst (λ (n : ℕ). T (not (kept s t) || ltb n (room s t))) (sym same) has-room
-
-                  -- and the side table its row
-                  pub inserts-done : (exit : Words) → Sided (sheetOf ws) t (putRows (sideRow (sheetOf ws) t r)) mid exit → Inserts ws store t r (Done 0 k) exit
-                  inserts-done exit si =
-                      let s = sheetOf ws in
-                      let rows = walkRows s (modelOf s store) t r in
-                      let listed = sorted (rowsAt s store (s .n) ++ rows) in
-                      let wrote : Wrote list listed store mid =
-                      subst (λ (l : Rows). Wrote list (sorted (l ++ rows)) store mid) (rows-is s (s .n) list lies store) w in
-                      record {
-                        says = λ o. says-all s store t 0 (length rows) (putRows (sideRow s t r) (rowsAt s store t)) listed
-                            (applied s store (changeOf 1 t o r)) 0 k exit
-                            (insert-done s (ready-good rd) store (rd .sound) t (ready-table rd lent) o r new fine (room-free s store t has-room) left) refl many
-                            (both-words rd list lies listed mid wrote t (ready-table rd lent) (putRows (sideRow s t r)) exit si 0 (length rows));
-                      }
+    -- and the side table its row
+    pub inserts-done : (exit : Words) → Sided (sheetOf ws) t (putRows (sideRow (sheetOf ws) t r)) mid exit → Inserts ws store t r (Done 0 k) exit
+    inserts-done exit si =
+        let s = sheetOf ws in
+        let rd = p .ready in
+        let l = ready-table rd (p .lent) in
+        let rows = walkRows s (modelOf s store) t r in
+        record {
+          says = λ o. says-both rd list (p .lies) (λ (l : Rows). sorted (l ++ rows)) (putRows (sideRow s t r)) mid exit w t l si _ _ _ _ _
+              (insert-done s (ready-good rd) store (rd .sound) t l o r (p .new) (p .fine) (room-free s store t (p .free)) (p .left)) refl (p .many);
+        }

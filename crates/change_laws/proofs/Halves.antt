@@ -5,6 +5,7 @@ use mathlib.Core.Path.{_≡_, _∙_, subst}
 use native.Mathlib.Omega.{arith}
 use Rattle.lists.specs.Lists.{Words}
 use Rattle.rows.specs.Rows.{Row, Rows}
+use Rattle.meaning.specs.Answers.{Outcome}
 use Rattle.meaning.specs.Sheet.{sheetOf}
 use Rattle.meaning.specs.Store.{partRows, rowsAt, modelOf}
 use Rattle.laws.specs.Sheets.{Good}
@@ -19,12 +20,15 @@ use Rattle.sheet_plan.specs.declared.Plan.{Plan}
 use Rattle.walk.specs.Grounds.{Ground, Lent}
 use Rattle.walk.proofs.Grounds.{ground}
 use Rattle.store.specs.declared.Part.{Part}
-use Rattle.store.specs.Parts.{Lies, Wrote}
+use Rattle.store.specs.declared.Answer.the-variants.{Done}
+use Rattle.store.specs.Answers.{Says}
+use Rattle.store.specs.Parts.{rowsIn, Lies, Wrote}
 use Rattle.store.specs.Plans.{partOf}
-use Rattle.store.proofs.Lying.{wrote-stands}
+use Rattle.store.proofs.Lying.{rows-is, wrote-stands}
 use Rattle.store.proofs.Plans.{list-lies}
 use Rattle.side_table.specs.Sides.{Modelled, Sided}
 use Rattle.change_laws.specs.Ready.{routeOf, Ready}
+use Rattle.change_laws.proofs.Answers.{says-all}
 
 module _ {ws store : Words} {plan : Plan} (rd : Ready ws store plan) where
   pub ready-good : Good (sheetOf ws)
@@ -64,10 +68,22 @@ module _ {ws store : Words} {plan : Plan} (rd : Ready ws store plan) where
       half-side = stands-rows (sheetOf ws) ready-good mid (withPart (modelOf (sheetOf ws) store) (sheetOf ws .n) rows) half-stands t (omega arith) ∙ half-part
 
       -- and then table t's
-      pub both-words : (f : Rows → Rows) (exit : Words) → Sided (sheetOf ws) t f mid exit → (taken added : ℕ)
+      both-words : (f : Rows → Rows) (exit : Words) → Sided (sheetOf ws) t f mid exit → (taken added : ℕ)
           → exit ≡ done (sheetOf ws) store t taken added (f (rowsAt (sheetOf ws) store t)) rows .words
       both-words f exit si taken added =
           let s = sheetOf ws in
           let m = modelOf s store in
           done-words s ready-good store exit t taken added l (f (rowsAt s store t)) rows
           (subst (λ (side : Rows). Stands s exit (withPart (withPart m (s .n) rows) t (f side))) half-part (si .stands (withPart m (s .n) rows) half-stands))
+
+  -- what a change answers that is done: the list's rows are g of what they were, and table t's side rows f of what they were
+  module _ (list : Part) (lies : Lies (sheetOf ws) (sheetOf ws .n) list) (g f : Rows → Rows) (mid exit : Words)
+      (w : Wrote list (g (rowsIn list store)) store mid) (t : ℕ) (l : t < sheetOf ws .n) (si : Sided (sheetOf ws) t f mid exit) where
+    pub says-both : (k j taken added : ℕ) (o : Outcome)
+        → o ≡ done (sheetOf ws) store t k j (f (rowsAt (sheetOf ws) store t)) (g (rowsAt (sheetOf ws) store (sheetOf ws .n)))
+        → taken ≡ k → added ≡ j → Says o (Done taken added) exit
+    says-both k j taken added o e p q =
+        let s = sheetOf ws in
+        let listed = g (rowsAt s store (s .n)) in
+        let wrote = subst (λ (rows : Rows). Wrote list (g rows) store mid) (rows-is s (s .n) list lies store) w in
+        says-all s store t k j (f (rowsAt s store t)) listed o taken added exit e p q (both-words list lies listed mid wrote t l f exit si k j)

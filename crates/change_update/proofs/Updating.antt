@@ -6,19 +6,18 @@ use mathlib.Core.Bool.{Bool, true, false, not}
 use mathlib.Core.Logic.{⊎-elim}
 use native.Mathlib.Omega.{arith}
 use lib.Dec.{T}
-use lib.ListN.{length}
 use borrow.Author.Tests.{not-true, not-false}
 use Rattle.lists.specs.Lists.{Words}
 use Rattle.rows.specs.Rows.{Row, Rows, pick, hasRow, noKeyTwice, putRows, takeRows, sorted}
 use Rattle.meaning.specs.Sheet.{sheetOf}
 use Rattle.meaning.specs.Plan.{shown}
-use Rattle.meaning.specs.Store.{rowsAt, modelOf}
+use Rattle.meaning.specs.Store.{modelOf}
 use Rattle.meaning.specs.Change.{qualifies, withColumns, sideRow, oldRow}
 use Rattle.meaning.specs.Base.{changeOf}
 use Rattle.laws.specs.Updates.{Tied}
 use Rattle.laws.proofs.Stores.{sound-get, model-side}
 use Rattle.walks.specs.Marks.{altered, isMarked}
-use Rattle.effects.specs.Applied.{applied, replacedRows}
+use Rattle.effects.specs.Applied.{applied}
 use Rattle.effects.proofs.Rows.{side-there}
 use Rattle.effects.proofs.Updates.{update-contradicts-side, update-none, update-contradicts-shown, update-contradicts-list, update-done}
 use Rattle.sheet_plan.specs.declared.Plan.{Plan}
@@ -28,11 +27,10 @@ use Rattle.store.specs.declared.Part.{Part}
 use Rattle.store.specs.declared.Answer.the-variants.{Done, Refused}
 use Rattle.store.specs.Parts.{rowsIn, Lies, Wrote}
 use Rattle.store.proofs.Answers.{says-refused}
-use Rattle.store.proofs.Lying.{rows-is}
 use Rattle.side_table.specs.Sides.{Replaceable, Sided}
 use Rattle.change_laws.specs.Ready.{Ready}
-use Rattle.change_laws.proofs.Answers.{says-nothing, says-all}
-use Rattle.change_laws.proofs.Halves.{ready-good, ready-table, half-side, both-words}
+use Rattle.change_laws.proofs.Answers.{says-nothing}
+use Rattle.change_laws.proofs.Halves.{ready-good, ready-table, half-side, says-both}
 use Rattle.change_taken.specs.declared.Taken.{Taken}
 use Rattle.change_taken.specs.declared.Taken.the-variants.{All, Contrary}
 use Rattle.change_update.specs.Updates.{ReplacedTaken, Updates}
@@ -98,15 +96,9 @@ module _ {ws store : Words} {plan : Plan} (rd : Ready ws store plan) {t : ℕ} {
               let s = sheetOf ws in
               let l = ready-table rd lent in
               let so = subst (ReplacedTaken ws store t r marks) e m in
-              let new = sorted (altered (isMarked marks) (withColumns (s .listed) t r′) (rowsAt s store (s .n))) in
-              let many = length (replacedRows s (modelOf s store) t r) in
-              let wrote : Wrote list new store mid =
-              subst (λ (rows : Rows). Wrote list (sorted (altered (isMarked marks) (withColumns (s .listed) t r′) rows)) store mid)
-              (rows-is s (s .n) list lies store) w in
               record {
                 says =
-                    says-all s store t many many (putRows (sideRow s t r′) (takeRows (sideRow s t r) (rowsAt s store t))) new
-                    (applied s store (changeOf 3 t r r′)) k k exit
-                    (update-done s (ready-good rd) store (rd .sound) t l r r′ old fine (so .1) ti marks (so .2)) (so .0) (so .0)
-                    (both-words rd list lies new mid wrote t l (λ (rows : Rows). putRows (sideRow s t r′) (takeRows (sideRow s t r) rows)) exit si many many);
+                    says-both rd list lies (λ (rows : Rows). sorted (altered (isMarked marks) (withColumns (s .listed) t r′) rows))
+                    (λ (rows : Rows). putRows (sideRow s t r′) (takeRows (sideRow s t r) rows)) mid exit w t l si _ _ _ _ _
+                    (update-done s (ready-good rd) store (rd .sound) t l r r′ old fine (so .1) ti marks (so .2)) (so .0) (so .0);
               }

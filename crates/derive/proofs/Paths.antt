@@ -20,14 +20,14 @@ module _ {A B : Type 0} (f : A → List B) where
 
 module _ (s : Sheet) where
   -- a promised edge from t to p
-  pub record Promised (t p : ℕ) : Type 0 where
+  pub record PromisedEdge (t p : ℕ) : Type 0 where
     pub edge : Edge
     pub there : Mem edge (s .edges)
     pub promised : T (isPromised edge)
     pub leaves : edge .child ≡ t
     pub goes : edge .parent ≡ p
 
-  pub dep-edge : (t p : ℕ) → Mem p (dep s t) → Promised t p
+  pub dep-edge : (t p : ℕ) → Mem p (dep s t) → PromisedEdge t p
   unfolding dep
   dep-edge t p m =
       let x = map-mem (λ e. e .parent) (promised s t) p m in

@@ -53,9 +53,6 @@ wide-append w (q ∷ rows) r h e = wide-cons w q (rows ++ (r ∷ [])) (wide-firs
 -- The part's words written anew
 module _ (p : Part) (old : Words) (win : Within p old) where
   module _ (x : Words) (long : length x ≡ sizeOf p) where
-    spliced : Words
-    spliced = splice old (p .start) (stopOf p) x
-
     size-is : length x ≡ stopOf p - p .start
     size-is = omega arith
 

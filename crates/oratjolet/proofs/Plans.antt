@@ -1,11 +1,11 @@
 -- The exported plan call: 220 words written over 220 are the answer.
 -- Assumes nothing.
-use Prim.Native.Nat.{ℕ, _+_}
-use mathlib.Core.Path.{_≡_, sym, ap, _∙_}
+use Prim.Native.Nat.{ℕ}
+use mathlib.Core.Path.{_≡_, ap, _∙_}
 use mathlib.Core.List.{_++_, append-nil}
 use native.Mathlib.Nat.{zero-add}
 use native.Mathlib.Omega.{arith}
-use lib.ListN.{length, drop}
+use lib.ListN.{length}
 use lib.Seq.{sets-eq, drop-length}
 use Rattle.lists.specs.Lists.{Words}
 use Rattle.meaning.specs.Plan.{plan}

@@ -1,13 +1,13 @@
 -- The exported show call: where the rows begin, from the call's own answer and the sheet's plan.
 -- Assumes nothing.
 use Prim.Native.Nat.{ℕ, zero, suc, _*_, _≤_, _<_}
-use mathlib.Core.Path.{_≡_, refl, sym, ap, _∙_, subst}
+use mathlib.Core.Path.{_≡_, refl, sym, ap, _∙_}
 use mathlib.Core.Bool.{Bool, true, false}
 use mathlib.Core.List.{[], _∷_}
 use native.Mathlib.Omega.{arith}
 use lib.Dec.{leb, eqb}
 use lib.ListN.{length, getD, take, drop}
-use borrow.Author.Tests.{leb-true, eq-eqb, ne-eqb}
+use borrow.Author.Tests.{leb-true, ne-eqb}
 use Rattle.lists.specs.Lists.{Words}
 use Rattle.meaning.specs.Answers.{unless, _orElse_}
 use Rattle.meaning.specs.Sheet.{sheetOf, sheetRefusal}
@@ -15,7 +15,6 @@ use Rattle.meaning.specs.Plan.{columns, start, storeLength}
 use Rattle.meaning.specs.Store.{count, showRefusal, stretchOf, show}
 use Rattle.laws.proofs.Numbers.{show-accepted}
 use Rattle.sheet_plan.specs.declared.Checked.{Checked}
-use Rattle.sheet_plan.specs.declared.Plan.{Plan}
 use Rattle.sheet_plan.specs.Plans.{checkedOf}
 use Rattle.sheet_plan.specs.Planned.{IsPlan}
 use Rattle.sheet_plan.proofs.Planning.{planned}

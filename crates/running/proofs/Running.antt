@@ -21,7 +21,6 @@ use Rattle.store.specs.declared.Answer.{Answer}
 use Rattle.store.specs.Answers.{Says}
 use Rattle.oratjolet.specs.Exports.{Left}
 use Rattle.laws.proofs.Numbers.{plan-number}
-use Rattle.plan_answer.specs.declared.PlanAnswer.{PlanAnswer}
 use Rattle.plan_answer.specs.Answers.{tableNo, answerOf}
 use Rattle.plan_answer.proofs.Laid.{table-in, tables-many}
 use Rattle.plan_answer.proofs.Sets.{plan-read-back}

@@ -1,15 +1,13 @@
 -- What the calls of the text print, from their contracts alone.
 -- Assumes nothing.
 use Prim.Native.Nat.{ℕ, zero, suc}
-use mathlib.Core.Path.{_≡_, refl, sym, ap, _∙_, subst}
-use mathlib.Core.Bool.{cond}
+use mathlib.Core.Path.{_≡_, refl, ap, _∙_, subst}
 use mathlib.Core.List.{List, [], _∷_, _++_, map}
-use lib.Dec.{eqb}
 use borrow.Author.Tests.{eq-eqb, ne-eqb}
 use Rattle.lists.specs.Lists.{Words, flat, from}
 use Rattle.meaning.specs.Sheet.{sheetOf, sheetRefusal}
-use Rattle.meaning.specs.Plan.{TablePlan, Plan, tablePlan, goodPlan, noPlan, plan}
-use Rattle.text.specs.Reading.{Text, Reading, says, isnt, readText}
+use Rattle.meaning.specs.Plan.{TablePlan, tablePlan, goodPlan, plan}
+use Rattle.text.specs.Reading.{Text, Reading, readText}
 use Rattle.text.specs.Printing.{tableText, tablesText, refusedText, planText}
 use Rattle.text.specs.Readers.{fresh, afterBytes, afterChunks}
 use Rattle.text.specs.Outcomes.{planOfReading, planOfText, printed, replyTo}

@@ -34,11 +34,12 @@ use Rattle.oratjolet.proofs.oratjolet_fill.Reads as fill-out-reads
 use Rattle.oratjolet.proofs.oratjolet_change as change-out
 use Rattle.oratjolet.proofs.oratjolet_change.Reads as change-out-reads
 
--- what a caller learns of a call, and a call of one function: the values passed, the result, the parameters at exit, and that
+-- what a caller learns, of the values passed, the result and the parameters at exit
 abbrev pub ToLearn : Ended → Type 1
 ToLearn T = (κs : Lfts (T .signature .lifetimes)) → ArgsD (T .signature) κs → ResD (T .signature) κs → AtExit T κs → Type 0
 
-pub record Met (T : Ended) (learnt : ToLearn T) : Type 0 where
+-- a call of one function: these values, and what is learnt of them
+pub record Call (T : Ended) (learnt : ToLearn T) : Type 0 where
   pub κs : Lfts (T .signature .lifetimes)
   pub args : ArgsD (T .signature) κs
   pub result : ResD (T .signature) κs
@@ -46,16 +47,16 @@ pub record Met (T : Ended) (learnt : ToLearn T) : Type 0 where
   pub promise : learnt κs args result exit
 
 abbrev pub PlanCall : Type 0
-PlanCall = Met plan.ended plan-reads.Learnt ⊎ Met plan-out.ended plan-out-reads.Learnt
+PlanCall = Call plan.ended plan-reads.Learnt ⊎ Call plan-out.ended plan-out-reads.Learnt
 
 abbrev pub ShowCall : Type 0
-ShowCall = Met show.ended show-reads.Learnt ⊎ Met show-out.ended show-out-reads.Learnt
+ShowCall = Call show.ended show-reads.Learnt ⊎ Call show-out.ended show-out-reads.Learnt
 
 abbrev pub FillCall : Type 0
-FillCall = Met fill.ended fill-reads.Learnt ⊎ Met fill-out.ended fill-out-reads.Learnt
+FillCall = Call fill.ended fill-reads.Learnt ⊎ Call fill-out.ended fill-out-reads.Learnt
 
 abbrev pub ChangeCall : Type 0
-ChangeCall = Met change.ended change-reads.Learnt ⊎ Met change-out.ended change-out-reads.Learnt
+ChangeCall = Call change.ended change-reads.Learnt ⊎ Call change-out.ended change-out-reads.Learnt
 
 -- a function whose contract asks nothing of the values passed
 abbrev pub TakesAny : (T : Ended) → ((κs : Lfts (T .signature .lifetimes)) → ArgsD (T .signature) κs → Type 0) → Type 0

@@ -19,16 +19,16 @@ use Rattle.text.proofs.reading.Reader.take_chunk as take-chunk
 use Rattle.text.proofs.reading.Reader.take_chunk.Reads as take-chunk-reads
 use Rattle.text.proofs.reply as reply
 use Rattle.text.proofs.reply.Reads as reply-reads
-use Rattle.running.specs.Calls.{Met, TakesAny}
+use Rattle.running.specs.Calls.{Call, TakesAny}
 
 abbrev pub NewCall : Type 0
-NewCall = Met new.ended new-reads.Learnt
+NewCall = Call new.ended new-reads.Learnt
 
 abbrev pub ChunkCall : Type 0
-ChunkCall = Met take-chunk.ended take-chunk-reads.Learnt
+ChunkCall = Call take-chunk.ended take-chunk-reads.Learnt
 
 abbrev pub ReplyCall : Type 0
-ReplyCall = Met reply.ended reply-reads.Learnt
+ReplyCall = Call reply.ended reply-reads.Learnt
 
 abbrev pub TextsTakeAny : Type 0
 TextsTakeAny = TakesAny new.ended new-reads.Asked × TakesAny take-chunk.ended take-chunk-reads.Asked × TakesAny reply.ended reply-reads.Asked

@@ -1,6 +1,5 @@
 -- The plan call's 220 words for the desk sheet, for the same with 3 0 unlisted and for a refused sheet, word by word, proved by computation.
 -- Assumes nothing.
-use Prim.Native.Nat.{ℕ}
 use mathlib.Core.Path.{_≡_}
 use mathlib.Core.List.{List, [], _∷_, _++_, map}
 use lib.Dec.{eqb→eq, eqb}

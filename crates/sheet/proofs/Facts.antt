@@ -120,10 +120,6 @@ pub named-facts : (ws : Words) (t c i : ℕ) → listingNames ws t c i ≡ true 
 unfolding listingNames
 named-facts ws t c i h = let a = and-true _ _ h in record { table = eqb-true _ _ (a .0); column = eqb-true _ _ (a .1) }
 
-pub named-make : (ws : Words) (t c i : ℕ) → Named ws t c i → listingNames ws t c i ≡ true
-unfolding listingNames
-named-make ws t c i h = rw (eq-eqb _ _ (h .table), eq-eqb _ _ (h .column))
-
 -- all of refusal 2, by number
 pub words-are : (ws : Words) → Counts ws → goodWords (sheetOf ws)
     ≡ (every (widthPasses ws) (tableCount ws) && every (edgePasses ws) (edgeCount ws) && every (conditionPasses ws) (conditionCount ws)

@@ -1,6 +1,6 @@
 -- What a verdict says of the words, and the ways through `tree_ok` and `verdict_of`.
 -- Assumes nothing.
-use Prim.Native.Nat.{ℕ, _-_, _≤_}
+use Prim.Native.Nat.{ℕ, _-_}
 use mathlib.Core.Path.{_≡_, refl, sym, ap, ap₂, _∙_}
 use mathlib.Core.Bool.{Bool, true, false, cond, _&&_}
 use native.Mathlib.Omega.{arith}
@@ -90,17 +90,6 @@ module _ (ws : Words) where
       go : (b : Bool) → eqb (sheetRefusal ws) 0 ≡ b → verdictNumber (cond b Good (Refused (sheetRefusal ws))) ≡ sheetRefusal ws
       go true e = sym (eqb-true _ _ e)
       go false e = refl
-
-  -- a refusal is one of three
-  pub refusal-small : sheetRefusal ws ≤ 3
-  unfolding sheetRefusal
-  refusal-small = go (goodCounts ws) (goodWords (sheetOf ws)) (goodTree (sheetOf ws))
-    where
-      go : (a b c : Bool) → unless a 1 (unless b 2 (unless c 3 0)) ≤ 3
-      go true true true = omega arith
-      go true true false = omega arith
-      go true false c = omega arith
-      go false b c = omega arith
 
   -- the three tests that a good sheet passes
   pub good-tests : sheetRefusal ws ≡ 0 → (goodCounts ws ≡ true) × ((goodWords (sheetOf ws) ≡ true) × (goodTree (sheetOf ws) ≡ true))

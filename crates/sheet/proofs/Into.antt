@@ -9,7 +9,7 @@ use native.Mathlib.Omega.{arith}
 use lib.Dec.{eqb·suc-zero}
 use lib.ListN.{length}
 use borrow.Author.Tests.{le-leb, lt-leb, eq-eqb, ne-eqb, leb-true}
-use Rattle.lists.specs.Lists.{Words, at, select}
+use Rattle.lists.specs.Lists.{Words, select}
 use Rattle.lists.specs.Loops.{every, first}
 use Rattle.lists.proofs.Loops.{every-at}
 use Rattle.meaning.specs.Sheet.{Edge, sheetOf, goesInto, edgesInto, tableCount, edgeCount}

@@ -9,7 +9,7 @@ use native.Mathlib.Numerals.{add-one}
 use native.Mathlib.Omega.{arith}
 use lib.ListN.{length, take, drop, length-take, length-drop, length-map}
 use lib.Seq.{getD-take, getD-drop, ext-getD}
-use Rattle.lists.specs.Lists.{Words, at, from, upTo}
+use Rattle.lists.specs.Lists.{Words, at, upTo}
 use Rattle.lists.proofs.Places.{length-from, getD-map-from}
 use Rattle.rows.specs.Rows.{Row, Rows, cut}
 use Rattle.rows.proofs.Cut.{cut-zero, cut-suc, cut-split}

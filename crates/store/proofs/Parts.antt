@@ -8,7 +8,7 @@ use lib.ListN.{length, getD, set}
 use lib.Seq.{set-getD}
 use borrow.Rule.Slice.PartMut.{putMid}
 use Rattle.lists.specs.Lists.{Words}
-use Rattle.lists.specs.Parts.{part, splice}
+use Rattle.lists.specs.Parts.{splice}
 use Rattle.lists.proofs.Parts.{put-back, length-part}
 use Rattle.rows.specs.Rows.{Rows}
 use Rattle.rows.specs.Regions.{laid, Holds, soundRegion, soundSide}

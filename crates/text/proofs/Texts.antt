@@ -124,7 +124,7 @@ from-pieces begun v (b ∷ bs) h z =
     blank false end more = piece (first-piece bs) more
 
 -- What holds of every reader that has not failed
-record Proper (r : Reader) : Type 0 where
+record Unfailed (r : Reader) : Type 0 where
   pub going : r .failed ≡ false
   pub long : length (r .words) ≡ most
   pub room : r .many ≤ most
@@ -148,26 +148,26 @@ held-full n many v ws h f l =
     sym (take-append-le n (take many ws) (v ∷ []) (omega arith) ∙ take-all n (take many ws) (omega arith))
 
 record Blanked (r q : Reader) : Type 0 where
-  pub proper : Proper q
+  pub unfailed : Unfailed q
   pub empty : q .begun ≡ false
   pub more : held q ≡ take most (held r ++ inHand (r .begun) (r .number))
 
-blanked : (r : Reader) → Proper r → Blanked r (afterBlank r)
+blanked : (r : Reader) → Unfailed r → Blanked r (afterBlank r)
 unfolding afterBlank noted emptied
 blanked r p = go (r .begun) refl (ltb (r .many) most) refl
   where
     go : (t : Bool) → r .begun ≡ t → (u : Bool) → ltb (r .many) most ≡ u → Blanked r (cond t (cond u (noted r) (emptied r)) r)
-    go false e u l = record { proper = p; empty = e; more = rw e (held-none most (r .many) (r .words) (p .room)) }
+    go false e u l = record { unfailed = p; empty = e; more = rw e (held-none most (r .many) (r .words) (p .room)) }
     go true e true l =
         let m : r .many < most = ltb-true _ _ l in
         record {
-          proper = record { going = p .going; long = simp length-set (p .long); room = omega arith; none = λ e. refl };
+          unfailed = record { going = p .going; long = simp length-set (p .long); room = omega arith; none = λ e. refl };
           empty = refl;
           more = rw e (held-more most (r .many) (r .number) (r .words) m (p .long));
         }
     go true e false l =
         record {
-          proper = record { going = p .going; long = p .long; room = p .room; none = λ e. refl };
+          unfailed = record { going = p .going; long = p .long; room = p .room; none = λ e. refl };
           empty = refl;
           more = rw e (held-full most (r .many) (r .number) (r .words) (p .room) (ltb-false _ _ l) (p .long));
         }
@@ -197,27 +197,27 @@ fails : (r : Reader) (bs : Text) → endsAs (broken r) bs ≡ isnt
 unfolding broken
 fails r bs = stays (broken r) bs refl
 
-ends-blank : (r : Reader) → Proper r → endsAs r [] ≡ firstWords (says (held r ++ inHand (r .begun) (r .number)))
+ends-blank : (r : Reader) → Unfailed r → endsAs r [] ≡ firstWords (says (held r ++ inHand (r .begun) (r .number)))
 unfolding endsAs afterBytes readingOf finished firstWords
 ends-blank r p =
     let q = blanked r p in
     ap readingOf (sym (byte-blank r (afterBlank r) 10 (p .going) (blank 10 (inl refl)) refl))
-    ∙ sym (failing (afterBlank r .failed) isnt (says (held (afterBlank r))) (q .proper .going))
+    ∙ sym (failing (afterBlank r .failed) isnt (says (held (afterBlank r))) (q .unfailed .going))
     ∙ ap says (q .more)
 
-longer-proper : (r : Reader) (d : ℕ) → Proper r → Proper (longer r d)
+longer-unfailed : (r : Reader) (d : ℕ) → Unfailed r → Unfailed (longer r d)
 unfolding longer
-longer-proper r d p = record { going = p .going; long = p .long; room = p .room; none = λ e. let z : _≡_ {A = ℕ} 0 1 = cc in absurd (omega arith) }
+longer-unfailed r d p = record { going = p .going; long = p .long; room = p .room; none = λ e. let z : _≡_ {A = ℕ} 0 1 = cc in absurd (omega arith) }
 
 step : (r q : Reader) (b : ℕ) (bs : Text) → q ≡ afterByte r b → endsAs r (b ∷ bs) ≡ endsAs q bs
 unfolding endsAs afterBytes
 step r q b bs e = ap (λ q. endsAs q bs) (sym e)
 
-ends : (bs : Text) (r : Reader) → Proper r → endsAs r bs ≡ firstWords (andThen (held r) (readFrom (r .begun) (r .number) bs))
+ends : (bs : Text) (r : Reader) → Unfailed r → endsAs r bs ≡ firstWords (andThen (held r) (readFrom (r .begun) (r .number) bs))
 unfolding readFrom firstWords longer
 ends [] r p = ends-blank r p
 ends (b ∷ bs) r p =
-    by-blank (isBlank b) refl (ends bs (afterBlank r) (blanked r p .proper)) (ends bs (longer r (b - 48)) (longer-proper r (b - 48) p))
+    by-blank (isBlank b) refl (ends bs (afterBlank r) (blanked r p .unfailed)) (ends bs (longer r (b - 48)) (longer-unfailed r (b - 48) p))
   where
     w : ℕ
     w = r .number * 10 + (b - 48)
@@ -232,7 +232,7 @@ ends (b ∷ bs) r p =
     blank-ends q ih =
         ih
         ∙ ap (λ h. firstWords (andThen h (readFrom (afterBlank r .begun) (afterBlank r .number) bs))) (q .more)
-        ∙ ap₂ (λ t v. firstWords (andThen (take most (held r ++ inHand (r .begun) (r .number))) (readFrom t v bs))) (q .empty) (q .proper .none (q .empty))
+        ∙ ap₂ (λ t v. firstWords (andThen (take most (held r ++ inHand (r .begun) (r .number))) (readFrom t v bs))) (q .empty) (q .unfailed .none (q .empty))
         ∙ first-twice (held r) (inHand (r .begun) (r .number)) (readFrom false 0 bs)
 
     by-size : isBlank b ≡ false → isDigit b ≡ true → (l : Bool) → ltb w (2 ^ 64) ≡ l → endsAs (longer r (b - 48)) bs ≡ long

@@ -3,12 +3,32 @@
 use Rattle.list_part.proofs.Lists.{list-room}
 use Rattle.change_laws.proofs.Halves.{ready-good, ready-ground, ready-list, ready-table, half-modelled}
 use Rattle.change_added.proofs.Putting.{list-within}
-use Rattle.change_insert.proofs.Inserting.{inserts-contradicts, inserts-none, inserts-no-room-side, inserts-no-room-list, adding, half-room}
-use Rattle.change_insert.proofs.Inserting.{inserts-done}
+use Rattle.change_insert.proofs.Inserting.{inserts-contradicts, inserts-none, inserts-no-room-side, inserts-no-room-list}
+use Rattle.change_insert.proofs.Inserting.{Insertable, insertable, adding, half-room, inserts-done}
 use borrow.Author.Needs.{needs}
 use native.Mathlib.Omega.{arith}
 use Rattle.change_insert.proofs.insert.Statement.{statement}
 use Rattle.change_insert.proofs.insert.Tie as tie
+
+-- past the last test
+admitted : (c : tie.Else4)
+    → let at-part-of = c .before .before .before .before .before .before .before .before .before .before in
+    let start = at-part-of .before .before .before .before .before .before .before .before .before .before .before .before .before .before .before .before in
+    Insertable (start .args .sheet .now) (start .args .store .now) (start .args .t2) (start .args .table) (start .args .row .now)
+    (at-part-of .part-of .result) (c .before .before .count-ways .result)
+admitted c =
+    let at-count-ways = c .before .before in
+    let at-part-of = at-count-ways .before .before .before .before .before .before .before .before in
+    let at-if3 = at-part-of .before in
+    let at-has-room = at-if3 .before in
+    let at-if2 = at-has-room .before .before in
+    let at-is-qualified = at-if2 .before in
+    let at-if1 = at-is-qualified .before .before .before .before .before in
+    let at-new-key = at-if1 .before in
+    let at-start = at-new-key .before .before .before .before .before in
+    insertable (at-start .pre .0) (at-start .pre .1) _ (at-new-key .new-key .ensures) (at-if1 .if1 .left) _ (at-is-qualified .is-qualified .ensures)
+    (at-if2 .if2 .left) _ (at-has-room .has-room .ensures) (at-if3 .if3 .left) _ (ready-list (at-start .pre .0) _ (at-part-of .part-of .ensures)) _
+    (at-count-ways .count-ways .ensures) (c .if4 .left)
 
 new-key-requires : tie.Need-new-key-requires
 new-key-requires c κs =
@@ -107,53 +127,16 @@ returns-4 c =
 
 add-ways-requires : tie.Need-add-ways-requires
 add-ways-requires c κs =
-    let at-if4 = c .before .before .before .before .before .before in
-    let at-count-ways = at-if4 .before .before in
-    let at-part-of = at-count-ways .before .before .before .before .before .before .before .before in
-    let at-if3 = at-part-of .before in
-    let at-has-room = at-if3 .before in
-    let at-if2 = at-has-room .before .before in
-    let at-is-qualified = at-if2 .before in
-    let at-if1 = at-is-qualified .before .before .before .before .before in
-    let at-new-key = at-if1 .before in
-    let at-start = at-new-key .before .before .before .before .before in (
-      ready-ground (at-start .pre .0),
-      (
-        at-start .pre .1,
-        adding (at-start .pre .0) (at-start .pre .1) _ (at-new-key .new-key .ensures) (at-if1 .if1 .left) _ (at-is-qualified .is-qualified .ensures)
-            (at-if2 .if2 .left) _ (at-has-room .has-room .ensures) (at-if3 .if3 .left) _ (ready-list (at-start .pre .0) _ (at-part-of .part-of .ensures)) _
-            (at-count-ways .count-ways .ensures) (at-if4 .if4 .left),
-      ),
-    )
+    let p = admitted (c .before .before .before .before .before .before) in
+    (ready-ground (p .ready), (p .lent, adding p))
 
 put-side-requires : tie.Need-put-side-requires
 put-side-requires c κs =
     let at-add-ways = c .before .before .before in
-    let at-if4 = at-add-ways .before .before .before .before .before .before .before in
-    let at-count-ways = at-if4 .before .before in
-    let at-part-of = at-count-ways .before .before .before .before .before .before .before .before in
-    let at-if3 = at-part-of .before in
-    let at-has-room = at-if3 .before in
-    let at-if2 = at-has-room .before .before in
-    let at-is-qualified = at-if2 .before in
-    let at-if1 = at-is-qualified .before .before .before .before .before in
-    let at-new-key = at-if1 .before in
-    let at-before = at-new-key .before .before .before .before in
-    let at-start = at-before .before in
-    let st = at-before .before in (
-      st .pre .0 .planned,
-      (
-        ready-table (st .pre .0) (st .pre .1),
-        (
-          st .pre .1 .wide,
-          (
-            half-modelled (st .pre .0) _ (ready-list (st .pre .0) _ (at-part-of .part-of .ensures)) _ _ (at-add-ways .add-ways .ensures),
-            half-room (at-start .pre .0) (at-start .pre .1) _ (at-new-key .new-key .ensures) (at-if1 .if1 .left) _ (at-is-qualified .is-qualified .ensures)
-                (at-if2 .if2 .left) _ (at-has-room .has-room .ensures) (at-if3 .if3 .left) _ (ready-list (at-start .pre .0) _ (at-part-of .part-of .ensures)) _
-                (at-count-ways .count-ways .ensures) (at-if4 .if4 .left) _ (at-add-ways .add-ways .ensures),
-          ),
-        ),
-      ),
+    let p = admitted (at-add-ways .before .before .before .before .before .before .before) in
+    let written = at-add-ways .add-ways .ensures in (
+      p .ready .planned,
+      (ready-table (p .ready) (p .lent), (p .lent .wide, (half-modelled (p .ready) _ (p .lies) _ _ written, half-room p _ written))),
     )
 
 same-length-5 : tie.Need-same-length-5
@@ -163,19 +146,8 @@ returns-5 : tie.Need-returns-5
 returns-5 c =
     let at-put-side = c .before .before in
     let at-add-ways = at-put-side .before .before .before .before in
-    let at-if4 = at-add-ways .before .before .before .before .before .before .before in
-    let at-count-ways = at-if4 .before .before in
-    let at-part-of = at-count-ways .before .before .before .before .before .before .before .before in
-    let at-if3 = at-part-of .before in
-    let at-has-room = at-if3 .before in
-    let at-if2 = at-has-room .before .before in
-    let at-is-qualified = at-if2 .before in
-    let at-if1 = at-is-qualified .before .before .before .before .before in
-    let at-new-key = at-if1 .before in
-    let at-start = at-new-key .before .before .before .before .before in
-    inserts-done (at-start .pre .0) (at-start .pre .1) _ (at-new-key .new-key .ensures) (at-if1 .if1 .left) _ (at-is-qualified .is-qualified .ensures)
-    (at-if2 .if2 .left) _ (at-has-room .has-room .ensures) (at-if3 .if3 .left) _ (ready-list (at-start .pre .0) _ (at-part-of .part-of .ensures)) _
-    (at-count-ways .count-ways .ensures) (at-if4 .if4 .left) _ (at-add-ways .add-ways .ensures) _ (at-put-side .put-side .ensures)
+    let p = admitted (at-add-ways .before .before .before .before .before .before .before) in
+    inserts-done p _ (at-add-ways .add-ways .ensures) _ (at-put-side .put-side .ensures)
 
 pub insert-spec : {M : Type 1} → statement M
 insert-spec =
