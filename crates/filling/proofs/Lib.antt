@@ -1,6 +1,7 @@
 pub mod Runs
 pub mod Promises
 pub mod Qualifies
+pub mod Joining
 pub mod Sides
 pub mod Walks
 pub mod Ways

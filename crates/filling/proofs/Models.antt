@@ -105,14 +105,15 @@ module _ (s : Sheet) (base : Tables) where
           here-or (λ u. cond (ltb u t) (sideTable s base u) [] ≡ cond (ltb u (t + 1)) (sideTable s base u) []) t u
           (rw (le-ltb t t (omega arith), lt-ltb t (t + 1) (omega arith)) (sym (side-unkept s base t k))) (λ d. same t u d))
 
+  -- all of them
+  pub partly-sides : partly s base (s .n) .sides ≡ meaning s base .sides
+  unfolding partly meaning
+  partly-sides =
+      map-same (λ u. cond (ltb u (s .n)) (sideTable s base u) []) (sideTable s base) (tables s) (λ u m. rw (lt-ltb u (s .n) (upTo-mem (s .n) u m)))
+
   -- and the list
   pub partly-end : withPart (partly s base (s .n)) (s .n) (theList s base) ≡ meaning s base
   unfolding meaning
   partly-end =
       with-list (partly s base (s .n)) (s .n) (partly-many (s .n)) (theList s base)
-      ∙ (λ i. record { sides = sides i; list = theList s base })
-    where
-      sides : partly s base (s .n) .sides ≡ map (sideTable s base) (tables s)
-      sides =
-          unfold partly in map-same (λ u. cond (ltb u (s .n)) (sideTable s base u) []) (sideTable s base) (tables s)
-          (λ u m. rw (lt-ltb u (s .n) (upTo-mem (s .n) u m)))
+      ∙ (λ i. record { sides = partly-sides i; list = theList s base })
