@@ -3,7 +3,7 @@ pub mod Promises
 pub mod Qualifies
 pub mod Joining
 pub mod Sides
-pub mod Walks
-pub mod Ways
+pub mod Sheets
 pub mod Models
+pub mod Listing
 pub mod Outcomes

@@ -5,6 +5,5 @@ mod ways;
 
 pub use columns::shows_row;
 pub use rewriting::give_rows;
-pub use rewriting::put_behind;
 pub use rewriting::settle_rows;
 pub use ways::put_ways;
