@@ -31,7 +31,7 @@ use Rattle.store.proofs.Answers.{says-once, says-refused}
 use Rattle.store.proofs.Checks.{check-good, check-plan, check-refused, check-numbered}
 use Rattle.store.proofs.Plans.{store-is}
 use Rattle.change_laws.specs.Ready.{Ready}
-use Rattle.change_laws.proofs.Routes.{routed}
+use Rattle.walk.proofs.Routes.{routed}
 use Rattle.change_apply.specs.Applies.{Applies}
 
 -- two outcomes of one call are the same

@@ -1,2 +1,2 @@
-pub mod Firsts
-pub mod Putting
+pub mod Counting
+pub mod Gains

@@ -17,6 +17,7 @@ use Rattle.places.proofs.Stands.{sound-stands, stands-rows}
 use Rattle.effects.specs.Applied.{done}
 use Rattle.effects.proofs.Written.{done-words}
 use Rattle.sheet_plan.specs.declared.Plan.{Plan}
+use Rattle.walk.specs.Routes.{routeOf}
 use Rattle.walk.specs.Grounds.{Ground, Lent}
 use Rattle.walk.proofs.Grounds.{ground}
 use Rattle.store.specs.declared.Part.{Part}
@@ -27,7 +28,7 @@ use Rattle.store.specs.Plans.{partOf}
 use Rattle.store.proofs.Lying.{rows-is, wrote-stands}
 use Rattle.store.proofs.Plans.{list-lies}
 use Rattle.side_table.specs.Sides.{Modelled, Sided}
-use Rattle.change_laws.specs.Ready.{routeOf, Ready}
+use Rattle.change_laws.specs.Ready.{Ready}
 use Rattle.change_laws.proofs.Answers.{says-all}
 
 module _ {ws store : Words} {plan : Plan} (rd : Ready ws store plan) where

@@ -1,3 +1,2 @@
-pub mod Routes
 pub mod Answers
 pub mod Halves

@@ -6,13 +6,9 @@ use Rattle.meaning.specs.Sheet.{sheetOf}
 use Rattle.meaning.specs.Store.{sound}
 use Rattle.sheet.specs.Tree.{GoodSheet}
 use Rattle.sheet_plan.specs.declared.Plan.{Plan}
-use Rattle.walk.specs.Routes.{Route, route}
+use Rattle.walk.specs.Routes.{routeOf}
 use Rattle.walk.specs.Grounds.{Routed}
 use Rattle.store.specs.Plans.{GoodPlan}
-
--- what a walk reads of the plan
-abbrev pub routeOf : Plan → Route
-routeOf p = route (p .root) (p .order) (p .starts) (p .columns) (p .places)
 
 pub record Ready (ws store : Words) (plan : Plan) : Type 0 where
   -- its words are within their rules (.joined .rules), and it is not refused (.not-refused)

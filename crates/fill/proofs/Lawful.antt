@@ -5,31 +5,31 @@ use mathlib.Core.Path.{_≡_, refl, sym, ap, _∙_, subst}
 use mathlib.Core.Bool.{Bool, true, false, _&&_}
 use mathlib.Core.List.{List}
 use native.Mathlib.Omega.{arith}
+use lib.Dec.{leb→le}
 use lib.ListN.{length, replicate, length-replicate}
 use borrow.Author.Tests.{le-leb, lt-leb}
 use Rattle.lists.specs.Lists.{Words}
 use Rattle.lists.specs.Loops.{every}
 use Rattle.lists.proofs.Truth.{isT}
+use Rattle.lists.proofs.Loops.{every-at}
 use Rattle.meaning.specs.Sheet.{sheetOf, room, tableCount}
-use Rattle.meaning.specs.Plan as Plans
 use Rattle.meaning.specs.Base.{baseOf, goodBase}
-use Rattle.meaning.specs.Meaning.{theList, meaning}
+use Rattle.meaning.specs.Meaning.{sideTable, theList, meaning}
 use Rattle.meaning.specs.Store.{fits}
 use Rattle.meaning.specs.Fill.{fill, filled}
 use Rattle.laws.specs.Sheets.{Good}
-use Rattle.laws.proofs.Meanings.{lawful-get, base-many, meaning-list}
+use Rattle.laws.proofs.Meanings.{meaning-list}
 use Rattle.places.specs.Stands.{Stands}
 use Rattle.places.proofs.Stands.{stands-words}
+use Rattle.sheet.proofs.Words.{n-is}
 use Rattle.sheet_plan.specs.declared.Plan.{Plan}
 use Rattle.store.specs.declared.Answer.the-variants.{Done, Refused}
 use Rattle.store.specs.declared.Part.{Part}
 use Rattle.store.specs.Plans.{partOf}
 use Rattle.store.specs.Answers.{Says}
 use Rattle.store.proofs.Answers.{says-refused, says-done}
-use Rattle.walks.specs.Walk.{Keyed}
-use Rattle.sheet_plan.proofs.Spread.{ordered}
-use Rattle.filling.specs.Written.{listFits}
-use Rattle.filling.proofs.Walks.{lawful-keyed}
+use Rattle.walk.specs.Routes.{routeOf}
+use Rattle.filling.specs.Written.{sideFits, listFits}
 use Rattle.filling.proofs.Outcomes.{fill-no-room, fill-done, fits-is}
 use Rattle.store.proofs.Plans.{list-lies}
 use Rattle.base_run.specs.Bases.{tablesOf}
@@ -39,8 +39,9 @@ use Rattle.base_qualified.proofs.Bases.{lawful-based}
 use Rattle.fill_sides.specs.Sides.{fitsNo, partlyOf}
 use Rattle.fill_sides.proofs.Whole.{fits-all, none-written, all-written}
 use Rattle.fill.proofs.Outcomes.{lawful-is}
-use Rattle.fill_list.specs.Grounds.{Ground}
-use Rattle.fill_list.specs.Putting.{Blank}
+use Rattle.fill_list.specs.Putting.{Rooted, Blank}
+use Rattle.fill_list.proofs.Counts.{lawful-tables}
+use Rattle.fill_list.proofs.Grounds.{sides-sound, planned-ground}
 use Rattle.fill.specs.Tested.{Stored, Tested}
 
 -- Lawful base tables
@@ -54,17 +55,8 @@ module _ {ws store run : Words} {plan : Plan} {starts numbers : List ℕ} (st : 
   pub based : Based ws run starts numbers
   based = lawful-based (te .laid) (te .orders) (te .lawful)
 
-  keyed : Keyed (sheetOf ws) (tablesOf ws run)
-  unfolding tablesOf
-  keyed = lawful-keyed (sheetOf ws) (tablesOf ws run) (lawful-get (sheetOf ws) (tablesOf ws run) (base-many (sheetOf ws) run) (isT (te .lawful)))
-
-  root-is : plan .root ≡ Plans.root (sheetOf ws)
-  root-is = st .planned .planned .root-is
-
-  pub ground : Ground ws run starts numbers (plan .root) (plan .order)
-  ground =
-      let p = st .planned .planned in
-      record { laid = te .laid; orders = te .orders; keyed = keyed; root-is = root-is; outward = ordered ws (plan .order) (p .order-in) (p .outward) }
+  pub rooted : Rooted ws run starts numbers (plan .root)
+  rooted = record { based = based; lawful = te .lawful; root-is = st .planned .planned .root-is }
 
   -- Refusal 9
   fits-are : (b c : Bool) → every (fitsNo ws run) (tableCount ws) ≡ b → listFits (sheetOf ws) (tablesOf ws run) ≡ c
@@ -89,6 +81,10 @@ module _ {ws store run : Words} {plan : Plan} {starts numbers : List ℕ} (st : 
         no : listFits (sheetOf ws) (tablesOf ws run) ≡ false
         no = unfold listFits in lt-leb (length (theList (sheetOf ws) (tablesOf ws run))) (room (sheetOf ws) (sheetOf ws .n)) (omega (arith, room-is))
 
+    side-room : (t : ℕ) → t < sheetOf ws .n → length (sideTable (sheetOf ws) (tablesOf ws run) t) ≤ room (sheetOf ws) t
+    unfolding fitsNo sideFits
+    side-room t l = leb→le _ _ (isT (every-at (fitsNo ws run) t (tableCount ws) (omega (arith, n-is ws)) sides))
+
     module _ (room-in : added ≤ list .room) where
       has-room : fits (sheetOf ws) (meaning (sheetOf ws) (baseOf (sheetOf ws) run)) ≡ true
       has-room = fits-are true true sides yes
@@ -96,11 +92,17 @@ module _ {ws store run : Words} {plan : Plan} {starts numbers : List ℕ} (st : 
           yes : listFits (sheetOf ws) (tablesOf ws run) ≡ true
           yes = unfold listFits in le-leb (length (theList (sheetOf ws) (tablesOf ws run))) (room (sheetOf ws) (sheetOf ws .n)) (omega (arith, room-is))
 
-      pub blank : (now : Words) → Stands (sheetOf ws) now (partlyOf ws run (tableCount ws)) → Blank ws run list now
+      pub blank : (now : Words) → Stands (sheetOf ws) now (partlyOf ws run (tableCount ws)) → Blank ws run starts (routeOf plan) list now
       blank now h =
+          let s = sheetOf ws in
+          let written = subst (Stands s now) (all-written ws run) h in
           record {
-            lies = list-lies (sheetOf ws) plan (st .planned) list e;
-            stands = subst (Stands (sheetOf ws) now) (all-written ws run) h;
+            laid = te .laid;
+            lawful = te .lawful;
+            ground = planned-ground (st .good) (st .planned .planned)
+                (sides-sound s is-good (tablesOf ws run) (lawful-tables ws run (te .lawful)) now written side-room);
+            lies = list-lies s plan (st .planned) list e;
+            stands = written;
             fits = omega arith;
           }
 

@@ -41,16 +41,14 @@ fn fill_lawful(
     if !fill_sides::sides_fit(sheet, plan, run, starts, numbers) {
         return Answer::Refused(NO_ROOM);
     }
-    let root = plan.root;
-    let order = plan.order;
     let list = store::part_of(plan, plan.tables);
-    let added = fill_list::count_list(sheet, run, starts, numbers, root, order);
+    let added = fill_list::count_list(sheet, run, starts, numbers, plan.root);
     if list.room < added {
         return Answer::Refused(NO_ROOM);
     }
     clear(store);
     fill_sides::write_sides(sheet, plan, run, starts, numbers, store);
-    fill_list::write_list(sheet, run, starts, numbers, root, order, store, list);
+    fill_list::write_list(sheet, plan, run, starts, store, list);
     Answer::Done(0, added as u64)
 }
 

@@ -1,4 +1,3 @@
-pub mod Treks
-pub mod Entries
-pub mod Gains
+pub mod Counts
+pub mod Grounds
 pub mod Writes

@@ -1,2 +1,1 @@
-pub mod Grounds
 pub mod Putting

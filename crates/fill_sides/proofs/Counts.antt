@@ -25,23 +25,23 @@ use Rattle.filling.proofs.Sides.{side-count}
 use Rattle.base_run.specs.Bases.{tablesOf}
 use Rattle.base_run.proofs.Steps.{good-of}
 use Rattle.base_run.proofs.Tests.{rows-count}
-use Rattle.base_qualified.specs.Qualifying.{Based, passesNo}
+use Rattle.base_qualified.specs.Qualifying.{Based, passesNo, passingCount}
 use Rattle.fill_sides.specs.Sides.{sideOf, fitsNo}
 
 -- with all tables left on the path
 pub passes-all : (ws run : Words) (n t i : ℕ) → n ≡ tableCount ws
-    → passesNo ws run n t i ≡ passing (sheetOf ws) (tablesOf ws run) (sheetOf ws .n) t (rowNo (tablesOf ws run) t i)
+    → passesNo ws run false n t i ≡ passing (sheetOf ws) (tablesOf ws run) false (sheetOf ws .n) t (rowNo (tablesOf ws run) t i)
 unfolding passesNo
-passes-all ws run n t i all = ap (λ (k : ℕ). passing (sheetOf ws) (tablesOf ws run) k t (rowNo (tablesOf ws run) t i)) (all ∙ sym (n-is ws))
+passes-all ws run n t i all = ap (λ (k : ℕ). passing (sheetOf ws) (tablesOf ws run) false k t (rowNo (tablesOf ws run) t i)) (all ∙ sym (n-is ws))
 
--- the qualified rows that a loop counts are the side table's
+-- the rows that pass are as many as the side table's
 pub count-is : {ws run : Words} {starts order : List ℕ} → Based ws run starts order → {t : ℕ} → t < tableCount ws → T (kept (sheetOf ws) t)
-    → (n many : ℕ) → n ≡ tableCount ws → many ≡ counted (passesNo ws run n t) (at run t) → many ≡ length (sideOf ws run t)
-unfolding sideOf passesNo
-count-is {ws} {run} b {t} l k n many all e =
-    let passed : ℕ → ℕ → Bool = λ n i. passing (sheetOf ws) (tablesOf ws run) n t (rowNo (tablesOf ws run) t i) in
+    → (many : ℕ) → many ≡ passingCount ws run false t → many ≡ length (sideOf ws run t)
+unfolding sideOf passesNo passingCount
+count-is {ws} {run} b {t} l k many e =
+    let passed : ℕ → ℕ → Bool = λ n i. passing (sheetOf ws) (tablesOf ws run) false n t (rowNo (tablesOf ws run) t i) in
     e
-    ∙ ap (λ (n : ℕ). counted (passed n) (at run t)) (all ∙ sym (n-is ws))
+    ∙ ap (λ (n : ℕ). counted (passed n) (at run t)) (sym (n-is ws))
     ∙ ap (counted (passed (sheetOf ws .n))) (sym (rows-count (b .laid) t l))
     ∙ sym (side-count (sheetOf ws) (good-of ws (b .laid .good)) (tablesOf ws run) t (omega (arith, n-is ws)) k)
 

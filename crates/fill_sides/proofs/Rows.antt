@@ -77,7 +77,7 @@ side-append : (s : Sheet) (base : Tables) (t : ℕ) (xs ys : List ℕ) → sideR
 unfolding sideRows numbered
 side-append s base t xs ys =
     let row : ℕ → Row = (λ i. getD (rowsOf base t) i []) in
-    let p = passing s base (s .n) t in
+    let p = passing s base false (s .n) t in
     ap (λ (rows : Rows). map (pick (shown s t)) (select p rows)) (map-append row xs ys)
     ∙ ap (map (pick (shown s t))) (select-append p (map row xs) (map row ys))
     ∙ map-append (pick (shown s t)) (select p (map row xs)) (select p (map row ys))
@@ -121,7 +121,7 @@ module _ {ws run : Words} {starts order : List ℕ} {t : ℕ} {columns : List �
   unfolding rowsTo sideRows
   wide-rows j =
       let rows = numbered (rowsOf (tablesOf ws run) t) (take j (numbersOf run order t)) in
-      wide-picks (shown (sheetOf ws) t) (select (passing (sheetOf ws) (tablesOf ws run) (sheetOf ws .n) t) rows)
+      wide-picks (shown (sheetOf ws) t) (select (passing (sheetOf ws) (tablesOf ws run) false (sheetOf ws .n) t) rows)
 
   pub front-none : Front (rowsTo ws run order t 0) (length part₀) 0 part₀
   unfolding rowsTo
@@ -139,18 +139,18 @@ module _ {ws run : Words} {starts order : List ℕ} {t : ℕ} {columns : List �
     number : i ≡ at (numbersOf run order t) j
     number = e ∙ number-is (a .based) (a .table) j h
 
-    decides : passesNo ws run n t i
-        ≡ passing (sheetOf ws) (tablesOf ws run) (sheetOf ws .n) t (rowNo (tablesOf ws run) t (at (numbersOf run order t) j))
+    decides : passesNo ws run false n t i
+        ≡ passing (sheetOf ws) (tablesOf ws run) false (sheetOf ws .n) t (rowNo (tablesOf ws run) t (at (numbersOf run order t) j))
     decides =
-        passes-all ws run n t i all ∙ ap (λ (i : ℕ). passing (sheetOf ws) (tablesOf ws run) (sheetOf ws .n) t (rowNo (tablesOf ws run) t i)) number
+        passes-all ws run n t i all ∙ ap (λ (i : ℕ). passing (sheetOf ws) (tablesOf ws run) false (sheetOf ws .n) t (rowNo (tablesOf ws run) t i)) number
 
-    pub front-miss : passesNo ws run n t i ≡ false → Front (rowsTo ws run order t (j + 1)) (length part₀) many part
+    pub front-miss : passesNo ws run false n t i ≡ false → Front (rowsTo ws run order t (j + 1)) (length part₀) many part
     unfolding rowsTo
     front-miss q =
         let same = side-miss (sheetOf ws) (tablesOf ws run) t (numbersOf run order t) j (omega (arith, long)) (sym decides ∙ q) in
         subst (λ (rows : Rows). Front rows (length part₀) many part) (sym same) f
 
-    module _ (q : passesNo ws run n t i ≡ true) where
+    module _ (q : passesNo ws run false n t i ≡ true) where
       more : rowsTo ws run order t (j + 1) ≡ rowsTo ws run order t j ++ (sideRowNo ws run t i ∷ [])
       unfolding rowsTo sideRowNo
       more =

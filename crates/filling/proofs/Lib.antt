@@ -1,8 +1,9 @@
 pub mod Runs
 pub mod Promises
 pub mod Qualifies
+pub mod Joining
 pub mod Sides
-pub mod Walks
-pub mod Ways
+pub mod Sheets
 pub mod Models
+pub mod Listing
 pub mod Outcomes

@@ -19,16 +19,25 @@ use Rattle.rows.proofs.Regions.{holds, all-zeros, all-drop, all-take}
 use Rattle.meaning.specs.Sheet.{Sheet, tables}
 use Rattle.meaning.specs.Plan.{kept, columns, size, start, storeLength}
 use Rattle.meaning.specs.Base.{Tables, rowsOf}
-use Rattle.meaning.specs.Meaning.{sideTable, theList, meaning}
-use Rattle.meaning.specs.Store.{partRows, partWords}
+use Rattle.meaning.specs.Meaning.{sideTable, theList, Model, meaning}
+use Rattle.meaning.specs.Store.{partRows, partWords, modelOf}
 use Rattle.laws.specs.Sheets.{Good}
 use Rattle.laws.proofs.Lists.{here-or, by-set, at-upTo, length-upTo}
-use Rattle.laws.proofs.Models.{by-part}
+use Rattle.laws.proofs.Models.{part-side, by-part}
+use Rattle.laws.proofs.Stores.{model-many, model-side}
 use Rattle.laws.proofs.Qualified.{side-unkept}
 use Rattle.places.specs.Stands.{slot, Stands, withPart}
 use Rattle.places.proofs.Models.{with-side, with-list}
+use Rattle.places.proofs.Stands.{stands-rows}
 use Rattle.walks.proofs.Lists.{zeros-at}
 use Rattle.filling.specs.Written.{partly}
+
+-- a store's side tables are those of the model that it stands for
+pub sides-stand : (s : Sheet) → Good s → (ws : Words) (m : Model) → Stands s ws m → modelOf s ws .sides ≡ m .sides
+sides-stand s g ws m st =
+    ext-getD [] (modelOf s ws .sides) (m .sides) (model-many s ws ∙ sym (st .many)) (λ t l.
+    let inside : t < s .n = omega (arith, l, model-many s ws) in
+    model-side s ws t inside ∙ stands-rows s g ws m st t (omega arith) ∙ part-side m (s .n) (st .many) t inside)
 
 module _ (s : Sheet) (base : Tables) where
   pub partly-many : (t : ℕ) → length (partly s base t .sides) ≡ s .n
@@ -105,14 +114,15 @@ module _ (s : Sheet) (base : Tables) where
           here-or (λ u. cond (ltb u t) (sideTable s base u) [] ≡ cond (ltb u (t + 1)) (sideTable s base u) []) t u
           (rw (le-ltb t t (omega arith), lt-ltb t (t + 1) (omega arith)) (sym (side-unkept s base t k))) (λ d. same t u d))
 
+  -- all of them
+  pub partly-sides : partly s base (s .n) .sides ≡ meaning s base .sides
+  unfolding partly meaning
+  partly-sides =
+      map-same (λ u. cond (ltb u (s .n)) (sideTable s base u) []) (sideTable s base) (tables s) (λ u m. rw (lt-ltb u (s .n) (upTo-mem (s .n) u m)))
+
   -- and the list
   pub partly-end : withPart (partly s base (s .n)) (s .n) (theList s base) ≡ meaning s base
   unfolding meaning
   partly-end =
       with-list (partly s base (s .n)) (s .n) (partly-many (s .n)) (theList s base)
-      ∙ (λ i. record { sides = sides i; list = theList s base })
-    where
-      sides : partly s base (s .n) .sides ≡ map (sideTable s base) (tables s)
-      sides =
-          unfold partly in map-same (λ u. cond (ltb u (s .n)) (sideTable s base u) []) (sideTable s base) (tables s)
-          (λ u m. rw (lt-ltb u (s .n) (upTo-mem (s .n) u m)))
+      ∙ (λ i. record { sides = partly-sides i; list = theList s base })

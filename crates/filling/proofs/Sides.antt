@@ -32,7 +32,7 @@ use Rattle.sheet.specs.Counted.{counted}
 use Rattle.sheet.proofs.Numbers.{length-up}
 use Rattle.filling.specs.Runs.{rowNo}
 use Rattle.filling.specs.Qualifies.{passing, numbered, sideRows}
-use Rattle.filling.proofs.Qualifies.{passing-rows}
+use Rattle.filling.proofs.Qualifies.{qualified-pass, passing-rows}
 
 -- the key of no row is after that of a later one
 abbrev pub KeysUp : Rows → Type 0
@@ -99,40 +99,49 @@ module _ (s : Sheet) (base : Tables) (t : ℕ) (order : List ℕ) where
 
   module _ (j : ℕ) (l : j < length order) where
     next : sideRows s base t (take (j + 1) order)
-        ≡ sideRows s base t (take j order) ++ map (pick (shown s t)) (select (passing s base (s .n) t) (rowNo base t (at order j) ∷ []))
+        ≡ sideRows s base t (take j order) ++ map (pick (shown s t)) (select (passing s base false (s .n) t) (rowNo base t (at order j) ∷ []))
     unfolding sideRows numbered rowNo
     next =
         let row : ℕ → Row = (λ i. getD (rowsOf base t) i []) in
-        let p = passing s base (s .n) t in
+        let p = passing s base false (s .n) t in
         ap (λ (k : ℕ). map (pick (shown s t)) (select p (map row (take k order)))) (add-one j)
         ∙ ap (λ (o : List ℕ). map (pick (shown s t)) (select p (map row o))) (take-suc order j 0 l)
         ∙ ap (λ (rows : Rows). map (pick (shown s t)) (select p rows)) (map-append row (take j order) (at order j ∷ []))
         ∙ ap (map (pick (shown s t))) (select-append p (map row (take j order)) (row (at order j) ∷ []))
         ∙ map-append (pick (shown s t)) (select p (map row (take j order))) (select p (row (at order j) ∷ []))
 
-    pub side-hit : passing s base (s .n) t (rowNo base t (at order j)) ≡ true
+    pub side-hit : passing s base false (s .n) t (rowNo base t (at order j)) ≡ true
         → sideRows s base t (take (j + 1) order) ≡ sideRows s base t (take j order) ++ (pick (shown s t) (rowNo base t (at order j)) ∷ [])
     side-hit e = next ∙ ap (λ b. sideRows s base t (take j order) ++ map (pick (shown s t)) (cond b (rowNo base t (at order j) ∷ []) [])) e
 
-    pub side-miss : passing s base (s .n) t (rowNo base t (at order j)) ≡ false → sideRows s base t (take (j + 1) order) ≡ sideRows s base t (take j order)
+    pub side-miss : passing s base false (s .n) t (rowNo base t (at order j)) ≡ false → sideRows s base t (take (j + 1) order) ≡ sideRows s base t (take j order)
     side-miss e =
         next ∙ ap (λ b. sideRows s base t (take j order) ++ map (pick (shown s t)) (cond b (rowNo base t (at order j) ∷ []) [])) e
         ∙ append-nil (sideRows s base t (take j order))
+
+-- how many rows of a table are selected
+pub select-count : (p : Row → Bool) (base : Tables) (t : ℕ) → length (select p (rowsOf base t)) ≡ counted (λ i. p (rowNo base t i)) (length (rowsOf base t))
+unfolding rowNo
+select-count p base t =
+    ap (λ (rows : Rows). length (select p rows)) (sym (numbered-rows (rowsOf base t))) ∙ length-up p (λ i. getD (rowsOf base t) i []) (length (rowsOf base t))
+  where
+    numbered-rows : (rows : Rows) → map (λ i. getD rows i []) (upTo (length rows)) ≡ rows
+    numbered-rows rows = unfold numbered in numbered-all rows
 
 -- In the end they are the side table
 module _ (s : Sheet) (g : Good s) (base : Tables) (t : ℕ) (inside : t < s .n) (is : T (kept s t)) where
   rows : Rows
   rows = rowsOf base t
 
-  pub side-is : sideTable s base t ≡ sorted (map (pick (shown s t)) (select (passing s base (s .n) t) (rowsOf base t)))
-  side-is = side-kept s base t is ∙ ap (λ (rows : Rows). sorted (map (pick (shown s t)) rows)) (passing-rows s base (s .n) t)
+  pub side-is : sideTable s base t ≡ sorted (map (pick (shown s t)) (select (passing s base false (s .n) t) (rowsOf base t)))
+  side-is = side-kept s base t is ∙ ap (λ (rows : Rows). sorted (map (pick (shown s t)) rows)) (qualified-pass s base (s .n) t ∙ passing-rows s base false (s .n) t)
 
   pub side-all : (order : List ℕ) (j : ℕ) → Same order (upTo (length (rowsOf base t))) → KeysUp (numbered (rowsOf base t) order)
       → T (noKeyTwice (rowsOf base t)) → length order ≤ j → sideRows s base t (take j order) ≡ sideTable s base t
   unfolding sideRows
   side-all order j same up once l =
       let some = numbered (rowsOf base t) order in
-      let p = passing s base (s .n) t in
+      let p = passing s base false (s .n) t in
       let cols = pick (shown s t) in
       let perm = numbered-same (rowsOf base t) order same in
       let k : T (keysRise some) = keys-up some up (once-same (rowsOf base t) some (λ f. sym (perm f)) once) in
@@ -145,16 +154,11 @@ module _ (s : Sheet) (g : Good s) (base : Tables) (t : ℕ) (inside : t < s .n) 
       ∙ sym side-is
 
   -- and as many as the qualified rows
-  pub side-count : length (sideTable s base t) ≡ counted (λ i. passing s base (s .n) t (rowNo base t i)) (length (rowsOf base t))
-  unfolding rowNo
+  pub side-count : length (sideTable s base t) ≡ counted (λ i. passing s base false (s .n) t (rowNo base t i)) (length (rowsOf base t))
   side-count =
-      let p = passing s base (s .n) t in
+      let p = passing s base false (s .n) t in
       let cols = pick (shown s t) in
       ap length side-is
       ∙ same-length (sorted (map cols (select p (rowsOf base t)))) (map cols (select p (rowsOf base t))) (same-sorted (map cols (select p (rowsOf base t))))
       ∙ length-map (select p (rowsOf base t)) cols
-      ∙ ap (λ (rows : Rows). length (select p rows)) (sym (numbered-rows (rowsOf base t)))
-      ∙ length-up p (λ i. getD (rowsOf base t) i []) (length (rowsOf base t))
-    where
-      numbered-rows : (rows : Rows) → map (λ i. getD rows i []) (upTo (length rows)) ≡ rows
-      numbered-rows rows = unfold numbered in numbered-all rows
+      ∙ select-count p base t

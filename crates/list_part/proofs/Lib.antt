@@ -3,3 +3,5 @@ pub mod Given
 pub mod Rewrites
 pub mod Altered
 pub mod Lists
+pub mod Firsts
+pub mod Putting

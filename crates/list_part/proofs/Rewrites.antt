@@ -107,8 +107,30 @@ module _ (p : Part) (old : Words) (win : Within p old) (rows : Rows) (ws : Words
         zeros = subst (λ (l : Words). T (all (eqb 0) (drop (length rows * p .columns) l))) (sym words-are) (laid-zeros (p .columns) (sizeOf p) rows (be .wide));
       }
 
+  -- they stand there, and what is put in their place then stands in the old store
+  pub behind-self : Behind p ws rows ws
+  behind-self =
+      let x = laid (sizeOf p) rows in
+      record {
+        words = be .words ∙ sym (anew-twice p old win x long x) ∙ ap (λ (l : Words). splice l (p .start) (stopOf p) x) (sym (be .words));
+        wide = be .wide;
+        fits = be .fits;
+      }
+
+  pub behind-over : (rows′ : Rows) (ws′ : Words) → Behind p ws rows′ ws′ → Behind p old rows′ ws′
+  behind-over rows′ ws′ over =
+      let x = laid (sizeOf p) rows′ in
+      record {
+        words = over .words ∙ ap (λ (l : Words). splice l (p .start) (stopOf p) x) (be .words) ∙ anew-twice p old win (laid (sizeOf p) rows) long x;
+        wide = over .wide;
+        fits = over .fits;
+      }
+
   -- counted, they can be settled, and are then written into the old store
   module _ (k : ℕ) (many : k ≡ length rows) where
+    pub behind-rows : looseRows p k ws ≡ rows
+    behind-rows = ap (λ (n : ℕ). looseRows p n ws) many ∙ rows-are
+
     pub behind-loose : Loose p k ws
     behind-loose = subst (λ (n : ℕ). Loose p n ws) (sym many) loose
 
@@ -116,7 +138,7 @@ module _ (p : Part) (old : Words) (win : Within p old) (rows : Rows) (ws : Words
     behind-settled exit w =
         wrote-over p old win (laid (sizeOf p) rows) long (sorted rows) exit
         (subst (λ (l : Words). Wrote p (sorted rows) l exit) (be .words)
-        (subst (λ (l : Rows). Wrote p (sorted l) ws exit) (ap (λ (n : ℕ). looseRows p n ws) many ∙ rows-are) w))
+        (subst (λ (l : Rows). Wrote p (sorted l) ws exit) behind-rows w))
 
   -- one row more
   module _ (r : Row) (wide : length r ≡ p .columns) (l : length rows < p .room) where

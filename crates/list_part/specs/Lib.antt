@@ -1,2 +1,3 @@
 pub mod Gives
 pub mod Loose
+pub mod Ways

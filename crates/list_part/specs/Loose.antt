@@ -1,8 +1,9 @@
 -- A part with a row or some columns written, one whose rows are not in order yet, and a store in which such rows stand in a part
 -- while every other word is as before.
 -- Assumes nothing.
-use Prim.Native.Nat.{ℕ, _*_, _≤_}
+use Prim.Native.Nat.{ℕ, _+_, _*_, _≤_}
 use mathlib.Core.Path.{_≡_}
+use mathlib.Core.List.{_++_}
 use lib.Dec.{T, eqb}
 use lib.ListN.{length, drop}
 use Rattle.lists.specs.Lists.{Words, all}
@@ -10,8 +11,9 @@ use Rattle.lists.specs.Parts.{splice}
 use Rattle.rows.specs.Rows.{Row, Rows, Wide, cut}
 use Rattle.rows.specs.Words.{written}
 use Rattle.rows.specs.Regions.{laid}
+use Rattle.meaning.specs.Sheet.{Sheet}
 use Rattle.store.specs.declared.Part.{Part}
-use Rattle.store.specs.Parts.{sizeOf, stopOf, wordsIn, countIn, Within}
+use Rattle.store.specs.Parts.{sizeOf, stopOf, wordsIn, countIn, Lies, Within}
 use Rattle.list_part.specs.Gives.{given}
 
 -- the store with r over row k of the part
@@ -36,3 +38,14 @@ pub record Behind (p : Part) (old : Words) (rows : Rows) (ws : Words) : Type 0 w
   pub words : ws ≡ splice old (p .start) (stopOf p) (laid (sizeOf p) rows)
   pub wide : Wide (p .columns) rows
   pub fits : length rows ≤ p .room
+
+-- so many rows stand in the list's part, zeros after them, and more have room behind them
+pub record HasRoom (s : Sheet) (list : Part) (many : ℕ) (more : Rows) (ws : Words) : Type 0 where
+  pub lies : Lies s (s .n) list
+  pub stand : Behind list ws (looseRows list many ws) ws
+  pub room : many + length more ≤ list .room
+
+-- they are put there, and k is how many then stand
+pub record PutBehind (list : Part) (many : ℕ) (more : Rows) (k : ℕ) (before after : Words) : Type 0 where
+  pub count : k ≡ length (looseRows list many before ++ more)
+  pub behind : Behind list before (looseRows list many before ++ more) after

@@ -1,8 +1,9 @@
-// List rows rewritten and put in order: one table's columns in them, and the list's part of a store while its rows change.
+// List rows rewritten and put in order: one table's columns in them, the list's part of a store while its rows change, and the rows of ways.
 mod columns;
 mod rewriting;
+mod ways;
 
 pub use columns::shows_row;
 pub use rewriting::give_rows;
-pub use rewriting::put_behind;
 pub use rewriting::settle_rows;
+pub use ways::put_ways;

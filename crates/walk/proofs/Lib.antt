@@ -7,3 +7,4 @@ pub mod Tests
 pub mod Climbing
 pub mod Laddering
 pub mod Trails
+pub mod Routes

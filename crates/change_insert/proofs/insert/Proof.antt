@@ -2,7 +2,7 @@
 -- Assumes nothing.
 use Rattle.list_part.proofs.Lists.{list-room}
 use Rattle.change_laws.proofs.Halves.{ready-good, ready-ground, ready-list, ready-table, half-modelled}
-use Rattle.change_added.proofs.Putting.{list-within}
+use Rattle.list_part.proofs.Putting.{list-within}
 use Rattle.change_insert.proofs.Inserting.{inserts-contradicts, inserts-none, inserts-no-room-side, inserts-no-room-list}
 use Rattle.change_insert.proofs.Inserting.{Insertable, insertable, adding, half-room, inserts-done}
 use borrow.Author.Needs.{needs}
