@@ -1,6 +1,8 @@
 // The fill call: the store of a sheet written anew from its base tables, which are tested first.
 use sheet::BAD_BASE;
 use sheet::NO_ROOM;
+use sheet::ROWS;
+use sheet::TABLES;
 use sheet::Verdict;
 use sheet::WRONG_LENGTH;
 use sheet_plan::Plan;
@@ -30,7 +32,7 @@ fn fill_lawful(
     sheet: &[u64],
     plan: Plan,
     run: &[u64],
-    starts: [usize; 9],
+    starts: [usize; TABLES + 1],
     numbers: &[u16],
     store: &mut [u64],
 ) -> Answer
@@ -59,8 +61,8 @@ fn fill_run(sheet: &[u64], plan: Plan, run: &[u64], store: &mut [u64]) -> Answer
     ensures { λ a. ⌜ Says (Meant.fill (now (sheet .entry)) (now (store .entry)) (now (run .entry))) a (now (store .exit)) ⌝ }
 {
     let starts = base_run::starts_of(sheet, run);
-    let mut numbers = [0u16; 524280];
-    let mut spare = [0u16; 32768];
+    let mut numbers = [0u16; TABLES * ROWS];
+    let mut spare = [0u16; ROWS / 2 + 1];
     base_run::order_tables(sheet, run, starts, &mut numbers, &mut spare);
     if !base_run::is_lawful(sheet, run, starts, &numbers) {
         return Answer::Refused(BAD_BASE);
