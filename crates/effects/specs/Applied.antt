@@ -9,7 +9,7 @@ use lib.ListN.{length, getD, set}
 use Rattle.lists.specs.Lists.{Words}
 use Rattle.rows.specs.Rows.{Row, Rows, takeRows, hasRows}
 use Rattle.rows.specs.Marks.{unmarked, Tallied}
-use Rattle.meaning.specs.Answers.{Outcome, refused}
+use Rattle.meaning.specs.Answers.{Outcome, refused, contradiction, noRoom}
 use Rattle.meaning.specs.Sheet.{Sheet}
 use Rattle.meaning.specs.Plan.{root}
 use Rattle.meaning.specs.Base.{Tables, Change, rowsOf}
@@ -21,7 +21,7 @@ use Rattle.walks.specs.Walk.{walkFrom, allWalks, firstWalks, withRow}
 -- tests 8 and 9, and the outcome of a change that passes them
 unfoldable pub applied : Sheet → Words → Change → Outcome
 applied s store c =
-    cond (agrees s (modelOf s store) c) (cond (fits s (modelAfter s store c)) (accepted s store c) (refused 9 store)) (refused 8 store)
+    cond (agrees s (modelOf s store) c) (cond (fits s (modelAfter s store c)) (accepted s store c) (refused noRoom store)) (refused contradiction store)
 
 -- an accepted change's outcome: the rows taken from the list and added to it, and the rows that then stand in table t's side table and on the list
 unfoldable pub done : Sheet → Words → ℕ → ℕ → ℕ → Rows → Rows → Outcome

@@ -9,12 +9,13 @@ use lib.ListN.{length, getD}
 use Rattle.lists.specs.Lists.{Words, at, all}
 use Rattle.lists.specs.Parts.{part}
 use Rattle.rows.specs.Rows.{Row}
+use Rattle.meaning.specs.Limits.{mostRows}
 use Rattle.meaning.specs.Sheet.{Sheet, tables}
 use Rattle.meaning.specs.Base.{Tables, rowsOf, baseStart}
 
 -- a table's count is at most 65,535
 unfoldable pub fewRows : Words → ℕ → Bool
-fewRows run t = leb (at run t) 65535
+fewRows run t = leb (at run t) mostRows
 
 -- refusal 10 but for the tables' laws: "base run of the wrong length, a count above 65,535"
 unfoldable pub goodRun : Sheet → Words → Bool
@@ -22,7 +23,7 @@ goodRun s run = eqb (length run) (baseStart s run (s .n)) && all (fewRows run) (
 
 pub record Run (s : Sheet) (run : Words) : Type 0 where
   pub long : length run ≡ baseStart s run (s .n)
-  pub few : (t : ℕ) → t < s .n → at run t ≤ 65535
+  pub few : (t : ℕ) → t < s .n → at run t ≤ mostRows
 
 -- table t's words
 unfoldable pub tableWords : Sheet → Words → ℕ → Words

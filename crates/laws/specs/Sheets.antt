@@ -6,25 +6,26 @@ use mathlib.Core.Path.{_≡_}
 use lib.Dec.{T}
 use lib.ListN.{length}
 use Rattle.lists.specs.Lists.{Mem, noneTwice}
+use Rattle.meaning.specs.Limits.{mostTables, mostColumns, mostConditions, mostListed, mostRoom}
 use Rattle.meaning.specs.Sheet.{Edge, Condition, Listed, Sheet, width, room, sameListed, isRoot}
 use Rattle.meaning.specs.Plan.{root, edgeInto}
 
 -- the sheet's counts
 pub record Counted (s : Sheet) : Type 0 where
   pub some : 1 ≤ s .n
-  pub eight : s .n ≤ 8
+  pub eight : s .n ≤ mostTables
   pub widths-many : length (s .widths) ≡ s .n
   pub edges-many : length (s .edges) + 1 ≡ s .n
-  pub conditions-many : length (s .conditions) ≤ 16
+  pub conditions-many : length (s .conditions) ≤ mostConditions
   pub listed-some : 1 ≤ length (s .listed)
-  pub listed-many : length (s .listed) ≤ 16
+  pub listed-many : length (s .listed) ≤ mostListed
   pub rooms-many : length (s .rooms) ≡ s .n + 1
 
 pub record Good (s : Sheet) : Type 0 where
   pub counts : Counted s
   -- its words
   pub wide : (t : ℕ) → t < s .n → 1 ≤ width s t
-  pub narrow : (t : ℕ) → t < s .n → width s t ≤ 8
+  pub narrow : (t : ℕ) → t < s .n → width s t ≤ mostColumns
   pub child-in : (e : Edge) → Mem e (s .edges) → e .child < s .n
   pub column-in : (e : Edge) → Mem e (s .edges) → e .column < width s (e .child)
   pub column-some : (e : Edge) → Mem e (s .edges) → 1 ≤ e .column
@@ -35,7 +36,7 @@ pub record Good (s : Sheet) : Type 0 where
   pub listed-in : (l : Listed) → Mem l (s .listed) → l .table < s .n
   pub listed-column : (l : Listed) → Mem l (s .listed) → l .column < width s (l .table)
   pub listed-once : T (noneTwice sameListed (s .listed))
-  pub room-in : (part : ℕ) → part ≤ s .n → room s part ≤ 4096
+  pub room-in : (part : ℕ) → part ≤ s .n → room s part ≤ mostRoom
   -- its tree: the root, the one edge into each other table, and how far each table is from the root
   pub root-in : root s < s .n
   pub only-root : (t : ℕ) → t < s .n → T (isRoot s t) → t ≡ root s

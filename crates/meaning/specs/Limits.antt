@@ -1,6 +1,6 @@
 -- Document 01's limits, each by one name.
 -- Assumes nothing.
-use Prim.Native.Nat.{ℕ}
+use Prim.Native.Nat.{ℕ, _*_}
 
 -- "n (1 to 8 tables)", "widths, each 1 to 8", "c (conditions, 0 to 16), p (listed columns, 1 to 16)"
 abbrev pub mostTables : ℕ
@@ -28,3 +28,7 @@ countWords = 9
 
 abbrev pub listCount : ℕ
 listCount = 8
+
+-- a place for each column, or for each table, of each table
+abbrev pub mostPlaces : ℕ
+mostPlaces = mostTables * mostColumns

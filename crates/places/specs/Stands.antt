@@ -9,6 +9,7 @@ use lib.ListN.{length, set}
 use Rattle.lists.specs.Lists.{Words, at}
 use Rattle.rows.specs.Rows.{Rows}
 use Rattle.rows.specs.Regions.{Holds}
+use Rattle.meaning.specs.Limits.{mostTables, listCount}
 use Rattle.meaning.specs.Sheet.{Sheet}
 use Rattle.meaning.specs.Plan.{columns, size, start, storeLength}
 use Rattle.meaning.specs.Meaning.{Model}
@@ -16,7 +17,7 @@ use Rattle.meaning.specs.Store.{partRows, count, partWords}
 
 -- where among the nine counts a part's stands
 abbrev pub slot : Sheet → ℕ → ℕ
-slot s part = cond (ltb part (s .n)) part 8
+slot s part = cond (ltb part (s .n)) part listCount
 
 -- the place behind a part's last word
 abbrev pub stop : Sheet → ℕ → ℕ
@@ -25,7 +26,7 @@ stop s part = start s part + size s part
 pub record Stands (s : Sheet) (ws : Words) (m : Model) : Type 0 where
   pub long : length ws ≡ storeLength s
   pub many : length (m .sides) ≡ s .n
-  pub absent : (t : ℕ) → s .n ≤ t → t < 8 → at ws t ≡ 0
+  pub absent : (t : ℕ) → s .n ≤ t → t < mostTables → at ws t ≡ 0
   pub holds : (part : ℕ) → part ≤ s .n → Holds (columns s part) (count s ws part) (partRows m part) (partWords s ws part)
 
 -- the model with other rows in one part

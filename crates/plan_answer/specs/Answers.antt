@@ -8,6 +8,7 @@ use lib.ListN.{length, getD, replicate}
 use Rattle.lists.specs.Lists.{member}
 use Rattle.lists.specs.Totals.{one}
 use Rattle.lists.specs.Loops.{filled}
+use Rattle.meaning.specs.Limits.{mostTables, mostColumns, mostPlaces}
 use Rattle.meaning.specs.Plan.{TablePlan, dep, need}
 use Rattle.meaning.specs.Plan as Meant
 use Rattle.meaning.specs.Sheet.{Sheet}
@@ -23,11 +24,11 @@ tableNo p t = getD (p .tables) t noTable
 
 -- a set for each of eight tables, as marks: 1 at 8t + x if x is in the set of table t
 unfoldable pub setsOf : (ℕ → List ℕ) → List ℕ
-setsOf f = filled (λ i. one (member (i % 8) (f (i / 8)))) 64 (replicate 64 0)
+setsOf f = filled (λ i. one (member (i % mostTables) (f (i / mostTables)))) mostPlaces (replicate mostPlaces 0)
 
 -- a number for each table
 unfoldable pub perTable : (ℕ → ℕ) → ℕ → List ℕ
-perTable f n = filled f n (replicate 8 0)
+perTable f n = filled f n (replicate mostTables 0)
 
 unfoldable pub answerOf : Meant.Plan → PlanAnswer
 answerOf p =
@@ -46,26 +47,26 @@ answerOf p =
 
 -- Dep and Need as marks: place i speaks of table i / 8 and of the table i % 8
 unfoldable pub depAt : Sheet → ℕ → ℕ
-depAt s i = one (member (i % 8) (dep s (i / 8)))
+depAt s i = one (member (i % mostTables) (dep s (i / mostTables)))
 
 unfoldable pub depOf : Sheet → List ℕ
-depOf s = filled (depAt s) 64 (replicate 64 0)
+depOf s = filled (depAt s) mostPlaces (replicate mostPlaces 0)
 
 unfoldable pub needAt : Sheet → ℕ → ℕ
-needAt s i = one (ltb (i / 8) (s .n) && member (i % 8) (need s (i / 8)))
+needAt s i = one (ltb (i / mostTables) (s .n) && member (i % mostTables) (need s (i / mostTables)))
 
 unfoldable pub needOf : Sheet → List ℕ
-needOf s = filled (needAt s) 64 (replicate 64 0)
+needOf s = filled (needAt s) mostPlaces (replicate mostPlaces 0)
 
 -- The same from the arrays that the check hands out, and these marks
 unfoldable pub keptColumn : List ℕ → List ℕ → ℕ → ℕ
-keptColumn kept shows i = cond (eqb (getD kept (i / 8) 0) 1) (getD shows i 0) 0
+keptColumn kept shows i = cond (eqb (getD kept (i / mostColumns) 0) 1) (getD shows i 0) 0
 
 unfoldable pub keptColumns : List ℕ → List ℕ → List ℕ
-keptColumns kept shows = filled (keptColumn kept shows) 64 (replicate 64 0)
+keptColumns kept shows = filled (keptColumn kept shows) mostPlaces (replicate mostPlaces 0)
 
 unfoldable pub firstParts : List ℕ → ℕ → List ℕ
-firstParts parts n = filled (λ t. getD parts t 0) n (replicate 8 0)
+firstParts parts n = filled (λ t. getD parts t 0) n (replicate mostTables 0)
 
 unfoldable pub answerFor : Plan → List ℕ → List ℕ → PlanAnswer
 answerFor p dep need =
@@ -89,10 +90,10 @@ refusedAnswer number =
       tables = 0;
       root = 0;
       store = 0;
-      kept = replicate 8 0;
-      columns = replicate 64 0;
-      dep = replicate 64 0;
-      need = replicate 64 0;
-      starts = replicate 8 0;
-      rooms = replicate 8 0;
+      kept = replicate mostTables 0;
+      columns = replicate mostPlaces 0;
+      dep = replicate mostPlaces 0;
+      need = replicate mostPlaces 0;
+      starts = replicate mostTables 0;
+      rooms = replicate mostTables 0;
     }

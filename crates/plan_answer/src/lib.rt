@@ -6,9 +6,9 @@ use sheet::Verdict;
 use sheet_plan::Plan;
 use sheet_plan::mark_of;
 ghost use mathlib.Core.Path.{_≡_};
-ghost use Prim.Native.Nat.{_*_, ℕ, _≤_, _<_};
+ghost use Prim.Native.Nat.{ℕ, _≤_, _<_};
 ghost use lib.ListN.{length};
-ghost use Rattle.meaning.specs.Limits.{mostTables, mostColumns};
+ghost use Rattle.meaning.specs.Limits.{mostTables, mostPlaces};
 ghost use Rattle.meaning.specs.Plan.{plan};
 ghost use Rattle.meaning.specs.Sheet.{sheetOf};
 ghost use Rattle.sheet.specs.Tree.{GoodSheet};
@@ -74,7 +74,7 @@ fn need_marks(sheet: &[u64]) -> [u64; PLACES]
 
 // The mark of column i % 8 of table i / 8: none for an unkept table.
 fn kept_column(kept: [u64; TABLES], shows: [u64; PLACES], i: usize) -> u64
-    requires { ⌜ i < mostTables * mostColumns ⌝ }
+    requires { ⌜ i < mostPlaces ⌝ }
     ensures { λ r. ⌜ r ≡ keptColumn kept shows i ⌝ }
 {
     if kept[i / COLUMNS] == 1 {

@@ -7,6 +7,7 @@ use lib.ListN.{replicate}
 use Rattle.lists.specs.Lists.{Words, at}
 use Rattle.lists.specs.Totals.{one}
 use Rattle.lists.specs.Loops.{filled}
+use Rattle.meaning.specs.Limits.{mostTables, mostColumns, mostPlaces, countWords}
 use Rattle.meaning.specs.Sheet.{Sheet, sheetOf, hasColumn, room}
 use Rattle.meaning.specs.Plan.{root, kept, isShown, shown, columns, start, storeLength}
 use Rattle.sheet.specs.Verdicts.{verdictOf}
@@ -21,29 +22,29 @@ unfoldable pub keptAt : Sheet → ℕ → ℕ
 keptAt s t = one (kept s t)
 
 unfoldable pub keptOf : Sheet → List ℕ
-keptOf s = filled (keptAt s) (s .n) (replicate 8 0)
+keptOf s = filled (keptAt s) (s .n) (replicate mostTables 0)
 
 -- place i speaks of table i / 8 and of its column i % 8
 unfoldable pub showsAt : Sheet → ℕ → ℕ
-showsAt s i = one (hasColumn s (i / 8) (i % 8) && isShown s (i / 8) (i % 8))
+showsAt s i = one (hasColumn s (i / mostColumns) (i % mostColumns) && isShown s (i / mostColumns) (i % mostColumns))
 
 unfoldable pub showsOf : Sheet → List ℕ
-showsOf s = filled (showsAt s) 64 (replicate 64 0)
+showsOf s = filled (showsAt s) mostPlaces (replicate mostPlaces 0)
 
 unfoldable pub shownAt : Sheet → ℕ → ℕ
-shownAt s i = at (shown s (i / 8)) (i % 8)
+shownAt s i = at (shown s (i / mostColumns)) (i % mostColumns)
 
 unfoldable pub shownOf : Sheet → List ℕ
-shownOf s = filled (shownAt s) 64 (replicate 64 0)
+shownOf s = filled (shownAt s) mostPlaces (replicate mostPlaces 0)
 
 unfoldable pub columnsOf : Sheet → List ℕ
-columnsOf s = filled (columns s) (s .n + 1) (replicate 9 0)
+columnsOf s = filled (columns s) (s .n + 1) (replicate countWords 0)
 
 unfoldable pub roomAt : Sheet → ℕ → ℕ
 roomAt s part = room s part
 
 unfoldable pub roomsOf : Sheet → List ℕ
-roomsOf s = filled (roomAt s) (s .n + 1) (replicate 9 0)
+roomsOf s = filled (roomAt s) (s .n + 1) (replicate countWords 0)
 
 -- where each part begins, and behind the list the store's end
 unfoldable pub startsOf : Sheet → List ℕ
@@ -71,14 +72,14 @@ emptyPlan =
       tables = 0;
       root = 0;
       store = 0;
-      kept = replicate 8 0;
-      shows = replicate 64 0;
-      shown = replicate 64 0;
-      columns = replicate 9 0;
-      rooms = replicate 9 0;
+      kept = replicate mostTables 0;
+      shows = replicate mostPlaces 0;
+      shown = replicate mostPlaces 0;
+      columns = replicate countWords 0;
+      rooms = replicate countWords 0;
       starts = replicate 10 0;
-      order = replicate 8 0;
-      places = replicate 64 0;
+      order = replicate mostTables 0;
+      places = replicate mostPlaces 0;
     }
 
 -- the plan beside a verdict

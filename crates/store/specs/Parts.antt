@@ -8,6 +8,7 @@ use Rattle.lists.specs.Lists.{Words, at}
 use Rattle.lists.specs.Parts.{part, splice}
 use Rattle.rows.specs.Rows.{Rows, cut}
 use Rattle.rows.specs.Regions.{laid, Region, Holds, soundRegion, soundSide}
+use Rattle.meaning.specs.Limits.{countWords}
 use Rattle.meaning.specs.Sheet.{Sheet, room}
 use Rattle.meaning.specs.Plan.{columns, start}
 use Rattle.places.specs.Stands.{slot}
@@ -45,8 +46,8 @@ pub record Lies (s : Sheet) (number : ℕ) (p : Part) : Type 0 where
 
 -- it lies within a store, behind the nine counts
 pub record Within (p : Part) (ws : Words) : Type 0 where
-  pub counted : p .slot < 9
-  pub behind : 9 ≤ p .start
+  pub counted : p .slot < countWords
+  pub behind : countWords ≤ p .start
   pub ends : stopOf p ≤ length ws
 
 -- and its rows stand there in order, with zeros after them

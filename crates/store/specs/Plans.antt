@@ -7,6 +7,7 @@ use lib.Dec.{ltb}
 use lib.ListN.{getD}
 use Rattle.lists.specs.Lists.{Words}
 use Rattle.lists.specs.Loops.{every}
+use Rattle.meaning.specs.Limits.{listCount}
 use Rattle.meaning.specs.Sheet.{Sheet}
 use Rattle.meaning.specs.Store.{sound}
 use Rattle.laws.specs.Sheets.{Good}
@@ -29,7 +30,7 @@ pub record OfSheet (p : Plan) : Type 0 where
 unfoldable pub partOf : Plan → ℕ → Part
 partOf p number =
     record {
-      slot = cond (ltb number (p .tables)) number 8;
+      slot = cond (ltb number (p .tables)) number listCount;
       start = getD (p .starts) number 0;
       columns = getD (p .columns) number 0;
       room = getD (p .rooms) number 0;

@@ -5,12 +5,13 @@ use mathlib.Core.Path.{_≡_}
 use mathlib.Core.Bool.{Bool, _&&_}
 use lib.Dec.{eqb}
 use Rattle.lists.specs.Lists.{Words, at, all, from}
+use Rattle.meaning.specs.Limits.{mostTables}
 use Rattle.meaning.specs.Sheet.{Sheet}
 use Rattle.meaning.specs.Store.{soundPart, soundTable}
 
 -- the counts of the tables from n to 7 are 0
 unfoldable pub absentZero : ℕ → Words → Bool
-absentZero n ws = all (λ t. eqb (at ws t) 0) (from n (8 - n))
+absentZero n ws = all (λ t. eqb (at ws t) 0) (from n (mostTables - n))
 
 -- all that is asked of table t
 unfoldable pub tableSound : Sheet → Words → ℕ → Bool
