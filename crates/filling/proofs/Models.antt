@@ -102,7 +102,8 @@ module _ (s : Sheet) (base : Tables) where
           by-set [] (λ u rows. u < s .n → rows ≡ rowsOf (partly s base (t + 1) .sides) u) (partly s base t .sides) t (sideTable s base t)
           (omega (arith, partly-many t))
           (λ i. sym (side (t + 1) t i ∙ rw (lt-ltb t (t + 1) (omega arith))))
-          (λ u d i. side t u i ∙ same t u d ∙ sym (side (t + 1) u i)) u (omega (arith, i, length-set (partly s base t .sides) t (sideTable s base t), partly-many t)))
+          (λ u d i. side t u i ∙ same t u d ∙ sym (side (t + 1) u i)) u
+          (omega (arith, i, length-set (partly s base t .sides) t (sideTable s base t), partly-many t)))
 
   pub partly-unkept : (t : ℕ) → t < s .n → (T (kept s t) → ⊥) → partly s base t ≡ partly s base (t + 1)
   unfolding partly

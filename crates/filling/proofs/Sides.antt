@@ -114,7 +114,8 @@ module _ (s : Sheet) (base : Tables) (t : ℕ) (order : List ℕ) where
         → sideRows s base t (take (j + 1) order) ≡ sideRows s base t (take j order) ++ (pick (shown s t) (rowNo base t (at order j)) ∷ [])
     side-hit e = next ∙ ap (λ b. sideRows s base t (take j order) ++ map (pick (shown s t)) (cond b (rowNo base t (at order j) ∷ []) [])) e
 
-    pub side-miss : passing s base false (s .n) t (rowNo base t (at order j)) ≡ false → sideRows s base t (take (j + 1) order) ≡ sideRows s base t (take j order)
+    pub side-miss : passing s base false (s .n) t (rowNo base t (at order j)) ≡ false
+        → sideRows s base t (take (j + 1) order) ≡ sideRows s base t (take j order)
     side-miss e =
         next ∙ ap (λ b. sideRows s base t (take j order) ++ map (pick (shown s t)) (cond b (rowNo base t (at order j) ∷ []) [])) e
         ∙ append-nil (sideRows s base t (take j order))
@@ -134,7 +135,9 @@ module _ (s : Sheet) (g : Good s) (base : Tables) (t : ℕ) (inside : t < s .n) 
   rows = rowsOf base t
 
   pub side-is : sideTable s base t ≡ sorted (map (pick (shown s t)) (select (passing s base false (s .n) t) (rowsOf base t)))
-  side-is = side-kept s base t is ∙ ap (λ (rows : Rows). sorted (map (pick (shown s t)) rows)) (qualified-pass s base (s .n) t ∙ passing-rows s base false (s .n) t)
+  side-is =
+      side-kept s base t is
+      ∙ ap (λ (rows : Rows). sorted (map (pick (shown s t)) rows)) (qualified-pass s base (s .n) t ∙ passing-rows s base false (s .n) t)
 
   pub side-all : (order : List ℕ) (j : ℕ) → Same order (upTo (length (rowsOf base t))) → KeysUp (numbered (rowsOf base t) order)
       → T (noKeyTwice (rowsOf base t)) → length order ≤ j → sideRows s base t (take j order) ≡ sideTable s base t
