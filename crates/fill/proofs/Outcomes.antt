@@ -37,7 +37,8 @@ fill-once sheet store base a b v w x y = says-once (fill sheet store base) a b v
 
 -- Refusals 1 to 4
 module _ (ws : Words) (c : Checked) (e : c ≡ checkedOf ws) where
-  pub sheet-refused : (store run : Words) (k j : ℕ) → c .verdict ≡ Verdicts.Refused j → k ≡ verdictNumber (c .verdict) → Says (fill ws store run) (Refused k) store
+  pub sheet-refused : (store run : Words) (k j : ℕ) → c .verdict ≡ Verdicts.Refused j → k ≡ verdictNumber (c .verdict)
+      → Says (fill ws store run) (Refused k) store
   sheet-refused store run k j r q =
       let is : k ≡ sheetRefusal ws = q ∙ ap verdictNumber r ∙ sym (check-refused ws c e j r) in
       let some : k ≡ 0 → ⊥ = (λ z. check-numbered ws c e j r (sym (check-refused ws c e j r) ∙ sym is ∙ z)) in
