@@ -10,7 +10,7 @@ use lib.ListN.{length}
 use Rattle.lists.specs.Lists.{Words}
 use Rattle.lists.proofs.Truth.{isT, eqb→≡, and-fst, and-snd}
 use Rattle.rows.specs.Rows.{Row, key}
-use Rattle.meaning.specs.Answers.{refused}
+use Rattle.meaning.specs.Answers.{contradiction, noRoom, refused}
 use Rattle.meaning.specs.Sheet.{Sheet, width, sheetOf, tableCount}
 use Rattle.meaning.specs.Base.{hasWidth, Change, changeOf, goodChange, tiedStay}
 use Rattle.meaning.specs.Store.{storeOf, modelOf, sound, fits}
@@ -84,7 +84,7 @@ module _ (s : Sheet) (g : Good s) (ws : Words) (ok : T (sound s ws)) (c : Change
   applied-sound = go (agrees s (modelOf s ws) c) (fits s (modelAfter s ws c)) (λ a f. after-sound s g ws c ok good (isT a) (isT f))
     where
       go : (a b : Bool) → (a ≡ true → b ≡ true → T (sound s (storeOf s (modelAfter s ws c))))
-          → T (sound s (cond a (cond b (accepted s ws c) (refused 9 ws)) (refused 8 ws) .words))
+          → T (sound s (cond a (cond b (accepted s ws c) (refused noRoom ws)) (refused contradiction ws) .words))
       go true true h = h refl refl
       go true false h = ok
       go false b h = ok

@@ -12,7 +12,7 @@ use lib.ListN.{length}
 use borrow.Author.Tests.{eqb-true, eq-eqb, ne-eqb}
 use Rattle.lists.specs.Lists.{Words, at, Mem, all, any, select, member, upTo}
 use Rattle.lists.specs.Loops.{every, some, first}
-use Rattle.lists.proofs.Truth.{T→≡, F→≡, same-test, mem-map, mem-upTo, select-mem, member→Mem, Mem→member, eq→eqb, eqb→≡}
+use Rattle.lists.proofs.Truth.{T→≡, F→≡, same-test, select-mem, member→Mem, Mem→member, eq→eqb, eqb→≡}
 use Rattle.laws.proofs.Lists.{any-select}
 use Rattle.meaning.specs.Sheet as Meant
 use Rattle.meaning.specs.Sheet.{Sheet, sheetOf, goesInto, leaves, edgesInto, isRoot, tableCount, edgeCount, listedCount}
@@ -22,7 +22,7 @@ use Rattle.sheet.specs.Read.{ReadsEdge}
 use Rattle.sheet.specs.Numbered.{edgeNo, listingNo}
 use Rattle.sheet.specs.Tests.{listingNames}
 use Rattle.sheet.proofs.Numbers.{member-chosen, any-up, all-upTo, any-upTo, found, not-found, first-passes}
-use Rattle.sheet.proofs.Words.{n-is, edges-are, listed-are}
+use Rattle.sheet.proofs.Words.{n-is, edges-are, edge-there, listed-are}
 use Rattle.sheet.specs.Tree.{goesNo, Joined, GoodSheet}
 use Rattle.sheet.proofs.Into.{into-none, into-first, into-only}
 use Rattle.derive.specs.Derived.{depNo, listedNo, needNo, restsOn, neededBy, keptNo, leavesBy, shownNo}
@@ -49,11 +49,6 @@ mem-dep ws k t u h = Mem→member u (depPlusIn (sheetOf ws) k t) h
 pub dep-end : (ws : Words) (t u left : ℕ) → left ≡ 0 → false ≡ depNo ws left t u
 unfolding depNo
 dep-end ws t u left z = rw z
-
--- edge i is one of the sheet's
-pub edge-there : (ws : Words) (i : ℕ) → i < edgeCount ws → Mem (edgeNo ws i) (sheetOf ws .edges)
-edge-there ws i h =
-    subst (λ (l : List Meant.Edge). Mem (edgeNo ws i) l) (sym (edges-are ws)) (mem-map (edgeNo ws) (upTo (edgeCount ws)) i (mem-upTo (edgeCount ws) i h))
 
 module _ (ws : Words) (u i : ℕ) (e : i ≡ first (goesNo ws u) (edgeCount ws)) where
   -- the edge found goes into u

@@ -1,23 +1,20 @@
 -- The change call, test by test: the first of tests 1 to 7 that is not passed refuses, and past them the call is `applied`.
 -- Assumes nothing.
-use Prim.Native.Nat.{ℕ, zero, suc}
+use Prim.Native.Nat.{ℕ}
 use mathlib.Core.Path.{_≡_, refl, ap, _∙_}
 use mathlib.Core.Bool.{Bool, true, false, cond}
 use lib.Dec.{eqb}
 use lib.ListN.{length}
 use borrow.Author.Tests.{eq-eqb, ne-eqb}
 use Rattle.lists.specs.Lists.{Words}
-use Rattle.meaning.specs.Answers.{unless, _orElse_, Outcome, refused}
+use Rattle.meaning.specs.Answers.{wrongLength, badChange, altersTied, notSound, contradiction, noRoom, unless, Outcome, refused}
 use Rattle.meaning.specs.Sheet.{sheetOf, sheetRefusal}
 use Rattle.meaning.specs.Plan.{storeLength}
 use Rattle.meaning.specs.Base.{Change, goodChange, tiedStay}
 use Rattle.meaning.specs.Store.{modelOf, sound, fits}
 use Rattle.meaning.specs.Change.{agrees, modelAfter, changeRefusal, accepted, change}
+use Rattle.laws.proofs.Numbers.{first-stays}
 use Rattle.effects.specs.Applied.{applied}
-
-first : (k rest : ℕ) → (k ≡ 0 → ⊥) → k orElse rest ≡ k
-first zero rest d = absurd (d refl)
-first (suc k) rest d = refl
 
 module _ (sheet ws : Words) (c : Change) where
   -- the call, by its number
@@ -31,27 +28,27 @@ module _ (sheet ws : Words) (c : Change) where
   -- refusals 1 to 3
   pub refuses-sheet : (sheetRefusal sheet ≡ 0 → ⊥) → change sheet ws c ≡ refused (sheetRefusal sheet) ws
   unfolding changeRefusal called
-  refuses-sheet d = numbered (sheetRefusal sheet) (first (sheetRefusal sheet) _ d) ∙ rw (ne-eqb (sheetRefusal sheet) 0 d)
+  refuses-sheet d = numbered (sheetRefusal sheet) (first-stays (sheetRefusal sheet) _ d) ∙ rw (ne-eqb (sheetRefusal sheet) 0 d)
 
   module _ (ok : sheetRefusal sheet ≡ 0) where
-    pub refuses-length : (length ws ≡ storeLength (sheetOf sheet) → ⊥) → change sheet ws c ≡ refused 4 ws
+    pub refuses-length : (length ws ≡ storeLength (sheetOf sheet) → ⊥) → change sheet ws c ≡ refused wrongLength ws
     unfolding changeRefusal called
-    refuses-length d = numbered 4 (rw (ok, ne-eqb (length ws) (storeLength (sheetOf sheet)) d))
+    refuses-length d = numbered wrongLength (rw (ok, ne-eqb (length ws) (storeLength (sheetOf sheet)) d))
 
     module _ (long : length ws ≡ storeLength (sheetOf sheet)) where
-      pub refuses-change : goodChange (sheetOf sheet) c ≡ false → change sheet ws c ≡ refused 5 ws
+      pub refuses-change : goodChange (sheetOf sheet) c ≡ false → change sheet ws c ≡ refused badChange ws
       unfolding changeRefusal called
-      refuses-change e = numbered 5 (rw (ok, eq-eqb (length ws) (storeLength (sheetOf sheet)) long, e))
+      refuses-change e = numbered badChange (rw (ok, eq-eqb (length ws) (storeLength (sheetOf sheet)) long, e))
 
       module _ (good : goodChange (sheetOf sheet) c ≡ true) where
-        pub refuses-tied : tiedStay (sheetOf sheet) c ≡ false → change sheet ws c ≡ refused 6 ws
+        pub refuses-tied : tiedStay (sheetOf sheet) c ≡ false → change sheet ws c ≡ refused altersTied ws
         unfolding changeRefusal called
-        refuses-tied e = numbered 6 (rw (ok, eq-eqb (length ws) (storeLength (sheetOf sheet)) long, good, e))
+        refuses-tied e = numbered altersTied (rw (ok, eq-eqb (length ws) (storeLength (sheetOf sheet)) long, good, e))
 
         module _ (stay : tiedStay (sheetOf sheet) c ≡ true) where
-          pub refuses-unsound : sound (sheetOf sheet) ws ≡ false → change sheet ws c ≡ refused 7 ws
+          pub refuses-unsound : sound (sheetOf sheet) ws ≡ false → change sheet ws c ≡ refused notSound ws
           unfolding changeRefusal called
-          refuses-unsound e = numbered 7 (rw (ok, eq-eqb (length ws) (storeLength (sheetOf sheet)) long, good, stay, e))
+          refuses-unsound e = numbered notSound (rw (ok, eq-eqb (length ws) (storeLength (sheetOf sheet)) long, good, stay, e))
 
           -- past them
           pub change-is : sound (sheetOf sheet) ws ≡ true → change sheet ws c ≡ applied (sheetOf sheet) ws c
@@ -59,9 +56,9 @@ module _ (sheet ws : Words) (c : Change) where
           change-is h =
               let a = agrees (sheetOf sheet) (modelOf (sheetOf sheet) ws) c in
               let b = fits (sheetOf sheet) (modelAfter (sheetOf sheet) ws c) in
-              numbered (unless a 8 (unless b 9 0)) (rw (ok, eq-eqb (length ws) (storeLength (sheetOf sheet)) long, good, stay, h)) ∙ go a b
+              numbered (unless a contradiction (unless b noRoom 0)) (rw (ok, eq-eqb (length ws) (storeLength (sheetOf sheet)) long, good, stay, h)) ∙ go a b
             where
-              go : (a b : Bool) → called (unless a 8 (unless b 9 0)) ≡ cond a (cond b (accepted (sheetOf sheet) ws c) (refused 9 ws)) (refused 8 ws)
+              go : (a b : Bool) → called (unless a contradiction (unless b noRoom 0)) ≡ cond a (cond b (accepted (sheetOf sheet) ws c) (refused noRoom ws)) (refused contradiction ws)
               go true true = refl
               go true false = refl
               go false b = refl

@@ -11,7 +11,7 @@ use lib.Seq.{set-getD}
 use borrow.Author.Tests.{lt-leb, le-leb}
 use Rattle.lists.specs.Lists.{Words}
 use Rattle.rows.specs.Rows.{Rows, putRows, takeRows}
-use Rattle.meaning.specs.Answers.{refused}
+use Rattle.meaning.specs.Answers.{contradiction, noRoom, refused}
 use Rattle.meaning.specs.Sheet.{Sheet, room}
 use Rattle.meaning.specs.Base.{Tables, Change}
 use Rattle.meaning.specs.Store.{storeOf, modelOf, sound, fits}
@@ -23,7 +23,7 @@ use Rattle.effects.specs.Applied.{applied, done, nothing}
 use Rattle.effects.proofs.Rooms.{listAfter, fits-after, side-room, list-room}
 
 module _ (s : Sheet) (g : Good s) (ws : Words) (ok : T (sound s ws)) (c : Change) (l : c .table < s .n) where
-  pub applied-contradicts : agrees s (modelOf s ws) c ≡ false → applied s ws c ≡ refused 8 ws
+  pub applied-contradicts : agrees s (modelOf s ws) c ≡ false → applied s ws c ≡ refused contradiction ws
   unfolding applied
   applied-contradicts e = rw e
 
@@ -38,7 +38,7 @@ module _ (s : Sheet) (g : Good s) (ws : Words) (ok : T (sound s ws)) (c : Change
 
   module _ (agree : agrees s (modelOf s ws) c ≡ true) (x : Effect) (e : effect s (modelOf s ws) c ≡ x) where
     pub applied-no-room : (room s (c .table) < length (sideAfter (modelOf s ws) (c .table) x)) ⊎ (room s (s .n) < length (listAfter (modelOf s ws) x))
-        → applied s ws c ≡ refused 9 ws
+        → applied s ws c ≡ refused noRoom ws
     unfolding applied
     applied-no-room h = rw (agree, fits-by x e) (go h)
       where
@@ -49,11 +49,11 @@ module _ (s : Sheet) (g : Good s) (ws : Words) (ok : T (sound s ws)) (c : Change
         list = length (listAfter (modelOf s ws) x)
 
         go : (room s (c .table) < side) ⊎ (room s (s .n) < list)
-            → cond (leb side (room s (c .table)) && leb list (room s (s .n))) (accepted s ws c) (refused 9 ws) ≡ refused 9 ws
+            → cond (leb side (room s (c .table)) && leb list (room s (s .n))) (accepted s ws c) (refused noRoom ws) ≡ refused noRoom ws
         go (inl h) = rw (lt-leb side (room s (c .table)) h)
         go (inr h) = rw (lt-leb list (room s (s .n)) h) (neither (leb side (room s (c .table))))
           where
-            neither : (a : Bool) → cond (a && false) (accepted s ws c) (refused 9 ws) ≡ refused 9 ws
+            neither : (a : Bool) → cond (a && false) (accepted s ws c) (refused noRoom ws) ≡ refused noRoom ws
             neither true = refl
             neither false = refl
 

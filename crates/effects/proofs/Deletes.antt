@@ -11,7 +11,7 @@ use Rattle.lists.proofs.Truth.{isT, T→≡}
 use Rattle.lists.proofs.Totals.{same-length}
 use Rattle.rows.specs.Rows.{Row, putRows, takeRows, hasRows}
 use Rattle.rows.specs.Marks.{unmarked}
-use Rattle.meaning.specs.Answers.{refused}
+use Rattle.meaning.specs.Answers.{contradiction, refused}
 use Rattle.rows.proofs.Takes.{has-same, takes-same}
 use Rattle.meaning.specs.Sheet.{Sheet}
 use Rattle.meaning.specs.Base.{rowsOf, changeOf}
@@ -26,7 +26,7 @@ use Rattle.effects.proofs.Rows.{list-rising, walk-rows}
 
 module _ (s : Sheet) (g : Good s) (ws : Words) (ok : T (sound s ws)) (t : ℕ) (l : t < s .n) (r o : Row) where
   -- 8: its shown columns are missing, or its key is there though it isn't qualified
-  pub delete-contradicts-side : oldRow s (modelOf s ws) t r ≡ false → applied s ws (changeOf 2 t r o) ≡ refused 8 ws
+  pub delete-contradicts-side : oldRow s (modelOf s ws) t r ≡ false → applied s ws (changeOf 2 t r o) ≡ refused contradiction ws
   unfolding agrees
   delete-contradicts-side e = applied-contradicts s g ws ok (changeOf 2 t r o) l (rw e)
 
@@ -47,7 +47,7 @@ module _ (s : Sheet) (g : Good s) (ws : Words) (ok : T (sound s ws)) (t : ℕ) (
       agree = rw (old, q) (has-same (rowsThrough s (modelOf s ws) t r) (walkRows s (modelOf s ws) t r) (rowsAt s ws (s .n)) (walk-rows s g ws ok t l r (isT q)))
 
       -- 8: they aren't there as often
-      pub delete-contradicts-list : hasRows (walkRows s (modelOf s ws) t r) (rowsAt s ws (s .n)) ≡ false → applied s ws (changeOf 2 t r o) ≡ refused 8 ws
+      pub delete-contradicts-list : hasRows (walkRows s (modelOf s ws) t r) (rowsAt s ws (s .n)) ≡ false → applied s ws (changeOf 2 t r o) ≡ refused contradiction ws
       delete-contradicts-list e = applied-contradicts s g ws ok (changeOf 2 t r o) l (agree ∙ e)
 
       -- its shown columns leave the side table, and the rows of its ways the list

@@ -2,7 +2,7 @@
 -- Assumes nothing.
 use Prim.Native.Nat.{ℕ, _+_, _<_, _≤_}
 use mathlib.Core.Path.{_≡_, refl, sym, ap, ap₂, _∙_}
-use mathlib.Core.Bool.{Bool, true, false, cond, not}
+use mathlib.Core.Bool.{Bool, true, false, cond}
 use mathlib.Core.List.{_++_}
 use mathlib.Core.Logic.{inl, inr, ⊎-elim}
 use native.Mathlib.Omega.{arith}
@@ -13,10 +13,10 @@ use Rattle.lists.specs.Totals.{total}
 use Rattle.lists.proofs.Truth.{isT, decided}
 use Rattle.lists.proofs.Totals.{total-append, same-length}
 use Rattle.rows.specs.Rows.{Row, key, putRows, takeRows, sorted, hasRows, hasKey}
-use Rattle.meaning.specs.Answers.{refused}
+use Rattle.meaning.specs.Answers.{contradiction, noRoom, refused}
 use Rattle.rows.proofs.Takes.{length-puts}
 use Rattle.meaning.specs.Sheet.{Sheet, room}
-use Rattle.meaning.specs.Plan.{kept, shown}
+use Rattle.meaning.specs.Plan.{kept}
 use Rattle.meaning.specs.Store.{modelOf, sound, count, rowsAt}
 use Rattle.meaning.specs.Change.{qualifies, rowsThrough, noEffect, sideRow, insertEffect, effect, newKey, agrees}
 use Rattle.meaning.specs.Base.{changeOf}
@@ -31,7 +31,7 @@ use Rattle.effects.proofs.Rows.{list-rising, walk-rows, side-row-one}
 
 module _ (s : Sheet) (g : Good s) (ws : Words) (ok : T (sound s ws)) (t : ℕ) (l : t < s .n) (o r : Row) where
   -- 8: the key stands in the kept side table
-  pub insert-contradicts : hasKey (key r) (rowsAt s ws t) ≡ true → applied s ws (changeOf 1 t o r) ≡ refused 8 ws
+  pub insert-contradicts : hasKey (key r) (rowsAt s ws t) ≡ true → applied s ws (changeOf 1 t o r) ≡ refused contradiction ws
   unfolding agrees newKey
   insert-contradicts e = applied-contradicts s g ws ok (changeOf 1 t o r) l (rw (model-side s ws t l, e))
 
@@ -77,12 +77,12 @@ module _ (s : Sheet) (g : Good s) (ws : Words) (ok : T (sound s ws)) (t : ℕ) (
           ∙ sym (total-append f (rowsAt s ws (s .n)) (rowsThrough s (modelOf s ws) t r)))
 
       -- 9: the side table is full, or the list has not so much room
-      pub insert-no-room-side : T (kept s t) → room s t ≤ count s ws t → applied s ws (changeOf 1 t o r) ≡ refused 9 ws
+      pub insert-no-room-side : T (kept s t) → room s t ≤ count s ws t → applied s ws (changeOf 1 t o r) ≡ refused noRoom ws
       insert-no-room-side k h =
           applied-no-room s g ws ok (changeOf 1 t o r) l agree (insertEffect s (modelOf s ws) t r) effect-is
           (inl (omega (arith, side-many, ap length (side-row-one s t r k))))
 
-      pub insert-no-room-list : room s (s .n) < length (walkRows s (modelOf s ws) t r) + count s ws (s .n) → applied s ws (changeOf 1 t o r) ≡ refused 9 ws
+      pub insert-no-room-list : room s (s .n) < length (walkRows s (modelOf s ws) t r) + count s ws (s .n) → applied s ws (changeOf 1 t o r) ≡ refused noRoom ws
       insert-no-room-list h =
           applied-no-room s g ws ok (changeOf 1 t o r) l agree (insertEffect s (modelOf s ws) t r) effect-is
           (inr (omega (arith, list-many)))

@@ -12,9 +12,9 @@ use Rattle.lists.proofs.Truth.{isT, T→≡}
 use Rattle.lists.proofs.Totals.{same-length}
 use Rattle.rows.specs.Rows.{Row, Rows, putRows, takeRows, sorted, hasRows}
 use Rattle.rows.specs.Marks.{unmarked}
-use Rattle.meaning.specs.Answers.{refused}
+use Rattle.meaning.specs.Answers.{contradiction, refused}
 use Rattle.rows.proofs.Takes.{has-same, takes-same, length-puts, length-takes}
-use Rattle.meaning.specs.Sheet.{Sheet, room}
+use Rattle.meaning.specs.Sheet.{Sheet}
 use Rattle.meaning.specs.Base.{rowsOf, changeOf}
 use Rattle.meaning.specs.Store.{modelOf, sound, rowsAt}
 use Rattle.meaning.specs.Change.{qualifies, canTake, rowsThrough, rowsFound, withColumns, sideRow, updateEffect, effect, oldRow, foundShow, agrees}
@@ -32,7 +32,7 @@ use Rattle.effects.proofs.Rows.{list-rising, walk-rows, side-row-long, 
 
 module _ (s : Sheet) (g : Good s) (ws : Words) (ok : T (sound s ws)) (t : ℕ) (l : t < s .n) (r r′ : Row) where
   -- 8: its shown columns are missing, or its key is there though it isn't qualified
-  pub update-contradicts-side : oldRow s (modelOf s ws) t r ≡ false → applied s ws (changeOf 3 t r r′) ≡ refused 8 ws
+  pub update-contradicts-side : oldRow s (modelOf s ws) t r ≡ false → applied s ws (changeOf 3 t r r′) ≡ refused contradiction ws
   unfolding agrees
   update-contradicts-side e = applied-contradicts s g ws ok (changeOf 3 t r r′) l (rw e)
 
@@ -43,7 +43,7 @@ module _ (s : Sheet) (g : Good s) (ws : Words) (ok : T (sound s ws)) (t : ℕ) (
     update-none e = applied-nothing s g ws ok (changeOf 3 t r r′) l (rw (old, e)) (rw e)
 
     -- 8: list rows found by key show other values
-    pub update-contradicts-shown : foundShow s (modelOf s ws) t r ≡ false → applied s ws (changeOf 3 t r r′) ≡ refused 8 ws
+    pub update-contradicts-shown : foundShow s (modelOf s ws) t r ≡ false → applied s ws (changeOf 3 t r r′) ≡ refused contradiction ws
     unfolding agrees
     update-contradicts-shown e = applied-contradicts s g ws ok (changeOf 3 t r r′) l (rw (old, e))
 
@@ -68,7 +68,7 @@ module _ (s : Sheet) (g : Good s) (ws : Words) (ok : T (sound s ws)) (t : ℕ) (
       agree = rw (old, show, q) (has-same (updateEffect s (modelOf s ws) t r r′ .listOut) (replacedRows s (modelOf s ws) t r) (rowsAt s ws (s .n)) out)
 
       -- 8: they aren't there as often
-      pub update-contradicts-list : hasRows (replacedRows s (modelOf s ws) t r) (rowsAt s ws (s .n)) ≡ false → applied s ws (changeOf 3 t r r′) ≡ refused 8 ws
+      pub update-contradicts-list : hasRows (replacedRows s (modelOf s ws) t r) (rowsAt s ws (s .n)) ≡ false → applied s ws (changeOf 3 t r r′) ≡ refused contradiction ws
       update-contradicts-list e = applied-contradicts s g ws ok (changeOf 3 t r r′) l (agree ∙ e)
 
       side-many : length (sideAfter (modelOf s ws) t (updateEffect s (modelOf s ws) t r r′)) ≡ length (rowsOf (modelOf s ws .sides) t)

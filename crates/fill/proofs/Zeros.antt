@@ -6,7 +6,7 @@ use native.Mathlib.Nat.{le-antisymm}
 use native.Mathlib.Omega.{arith}
 use lib.ListN.{length, replicate, length-replicate}
 use lib.Seq.{ext-getD}
-use Rattle.lists.specs.Lists.{Words, at}
+use Rattle.lists.specs.Lists.{Words}
 use Rattle.lists.specs.Loops.{filled}
 use Rattle.lists.proofs.Loops.{length-filled, getD-filled}
 use Rattle.walks.proofs.Lists.{zeros-at}

@@ -1,7 +1,7 @@
 -- The fill call's outcome, test by test in its order, and refusal 9 as counts against rooms.
 -- Assumes nothing.
-use Prim.Native.Nat.{ℕ, zero, suc, _+_}
-use mathlib.Core.Path.{_≡_, refl, sym, ap, ap₂, _∙_}
+use Prim.Native.Nat.{ℕ, _+_}
+use mathlib.Core.Path.{_≡_, sym, ap, ap₂, _∙_}
 use mathlib.Core.Bool.{true, false, _&&_}
 use native.Mathlib.Numerals.{add-one}
 use lib.Dec.{leb}
@@ -10,23 +10,18 @@ use borrow.Author.Tests.{eq-eqb, ne-eqb}
 use Rattle.lists.specs.Lists.{Words}
 use Rattle.lists.specs.Loops.{every}
 use Rattle.lists.proofs.Truth.{all-same, upTo-mem}
-use Rattle.meaning.specs.Answers.{_orElse_, refused}
+use Rattle.meaning.specs.Answers.{wrongLength, noRoom, badBase, refused}
 use Rattle.meaning.specs.Sheet.{Sheet, sheetOf, sheetRefusal, tables, room}
 use Rattle.meaning.specs.Plan.{storeLength}
 use Rattle.meaning.specs.Base.{Tables, baseOf, goodBase}
 use Rattle.meaning.specs.Meaning.{meaning}
 use Rattle.meaning.specs.Store.{partRows, fits}
 use Rattle.meaning.specs.Fill.{fillRefusal, filled, fill}
-use Rattle.laws.proofs.Numbers.{fill-number, fill-refused}
+use Rattle.laws.proofs.Numbers.{first-stays, fill-number, fill-refused}
 use Rattle.laws.proofs.Models.{part-side, part-list}
 use Rattle.laws.proofs.Meanings.{meaning-many, meaning-side, meaning-list}
 use Rattle.sheet.proofs.Numbers.{all-upTo}
 use Rattle.filling.specs.Written.{sideFits, listFits}
-
--- a number that is not 0 is the first
-stays : (number rest : ℕ) → (number ≡ 0 → ⊥) → number orElse rest ≡ number
-stays zero rest d = absurd (d refl)
-stays (suc number) rest d = refl
 
 -- Test by test
 module _ (sheet store run : Words) where
@@ -34,23 +29,23 @@ module _ (sheet store run : Words) where
   fill-sheet d = fill-refused sheet store run (λ e. d (sym is ∙ e)) ∙ ap (λ (k : ℕ). refused k store) refusal
     where
       refusal : fillRefusal sheet store run ≡ sheetRefusal sheet
-      refusal = unfold fillRefusal in stays (sheetRefusal sheet) _ d
+      refusal = unfold fillRefusal in first-stays (sheetRefusal sheet) _ d
 
       is : fill sheet store run .number ≡ sheetRefusal sheet
       is = fill-number sheet store run ∙ refusal
 
   module _ (good : sheetRefusal sheet ≡ 0) where
-    pub fill-length : (length store ≡ storeLength (sheetOf sheet) → ⊥) → fill sheet store run ≡ refused 4 store
+    pub fill-length : (length store ≡ storeLength (sheetOf sheet) → ⊥) → fill sheet store run ≡ refused wrongLength store
     unfolding fill fillRefusal
     fill-length d = rw (good, ne-eqb (length store) (storeLength (sheetOf sheet)) d)
 
     module _ (long : length store ≡ storeLength (sheetOf sheet)) where
-      pub fill-bad-base : goodBase (sheetOf sheet) run ≡ false → fill sheet store run ≡ refused 10 store
+      pub fill-bad-base : goodBase (sheetOf sheet) run ≡ false → fill sheet store run ≡ refused badBase store
       unfolding fill fillRefusal
       fill-bad-base b = rw (good, eq-eqb (length store) (storeLength (sheetOf sheet)) long, b)
 
       module _ (lawful : goodBase (sheetOf sheet) run ≡ true) where
-        pub fill-no-room : fits (sheetOf sheet) (meaning (sheetOf sheet) (baseOf (sheetOf sheet) run)) ≡ false → fill sheet store run ≡ refused 9 store
+        pub fill-no-room : fits (sheetOf sheet) (meaning (sheetOf sheet) (baseOf (sheetOf sheet) run)) ≡ false → fill sheet store run ≡ refused noRoom store
         unfolding fill fillRefusal
         fill-no-room f = rw (good, eq-eqb (length store) (storeLength (sheetOf sheet)) long, lawful, f)
 

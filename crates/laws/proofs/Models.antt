@@ -11,7 +11,7 @@ use lib.Dec.{T, ltb, leb, eqb, leb→le, le→leb}
 use lib.ListN.{length, take, drop, replicate, length-append, length-replicate, List·getD-append, List·getD-eq-default}
 use lib.Seq.{drop-append-add, getD-append-seam, drop-at, take-at, take-take}
 use borrow.Author.Tests.{ltb-true, ltb-false}
-use Rattle.lists.specs.Lists.{Words, at, all, flat, from, upTo, sum}
+use Rattle.lists.specs.Lists.{Words, at, all, flat, upTo, sum}
 use Rattle.lists.proofs.Truth.{all-get, all-make, map-same, mem-upTo, upTo-mem, decided}
 use Rattle.lists.proofs.Places.{block, map-getD}
 use Rattle.rows.specs.Rows.{Rows, Wide, cut, rising, noKeyTwice}

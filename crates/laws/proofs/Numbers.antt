@@ -1,6 +1,6 @@
 -- A call's number is that of the first test that is not passed: chains of refusals, and what each call is when it is accepted or refused.
 -- Assumes nothing.
-use Prim.Native.Nat.{ℕ}
+use Prim.Native.Nat.{ℕ, zero, suc}
 use mathlib.Core.Path.{_≡_, refl, sym, ap, _∙_, subst}
 use mathlib.Core.Bool.{Bool, true, false, cond, not}
 use mathlib.Core.List.{List, [], _∷_, _++_}
@@ -17,7 +17,7 @@ use Rattle.meaning.specs.Store.{modelOf, sound, fits, showRefusal, stretchOf, s
 use Rattle.meaning.specs.Meaning.{meaning}
 use Rattle.meaning.specs.Change.{modelAfter, agrees, changeRefusal, accepted, change}
 use Rattle.meaning.specs.Fill.{fillRefusal, filled, fill}
-use Rattle.meaning.specs.Demands.{Refused, Test, test, First, sheetTests, changeTests, fillTests, showTests}
+use Rattle.meaning.specs.Demands.{Refused, Test, First, sheetTests, changeTests, fillTests, showTests}
 
 -- All tests are passed; a list of tests in which no number is 0
 abbrev pub Passed : List Test → Type 0
@@ -67,6 +67,11 @@ first-of (t ∷ ts) = go (t .passed) (first-of ts)
         → ((T b → ⊥) × (unless b (t .number) (firstOf ts) ≡ t .number)) ⊎ (T b × First ts (unless b (t .number) (firstOf ts)))
     go true f = inr (tt, f)
     go false f = inl (λ h. h, refl)
+
+-- a refusal that is met is the first
+pub first-stays : (number rest : ℕ) → (number ≡ 0 → ⊥) → number orElse rest ≡ number
+first-stays zero rest d = absurd (d refl)
+first-stays (suc number) rest d = refl
 
 pub sheet-chain : (sheet : Words) (ts : List Test) → sheetRefusal sheet orElse firstOf ts ≡ firstOf (sheetTests sheet ++ ts)
 unfolding sheetRefusal

@@ -16,7 +16,7 @@ use Rattle.rows.specs.Rows.{Rows, Wide, pick, rising, sorted, noKeyTwice}
 use Rattle.rows.proofs.Sorted.{rising-none, rising-sorted}
 use Rattle.rows.proofs.Cut.{cut-length, wide-cut, flat-cut}
 use Rattle.rows.proofs.Regions.{zeros-are}
-use Rattle.meaning.specs.Sheet.{Sheet, tables, room}
+use Rattle.meaning.specs.Sheet.{Sheet, room}
 use Rattle.meaning.specs.Plan.{kept, shown, columns, size, start, storeLength}
 use Rattle.meaning.specs.Base.{Tables, rowsOf}
 use Rattle.meaning.specs.Meaning.{qualified, ways, listRow, theList, Model, meaning}

@@ -1,11 +1,9 @@
 -- Worked cases beside the table of ● cases, each the smallest that sees an error which the table cannot see, proved the same way.
 -- Assumes nothing.
-use mathlib.Core.List.{List, [], _∷_, _++_, map}
-use lib.Dec.{eqb}
+use mathlib.Core.List.{List, [], _∷_, _++_}
 use Rattle.lists.specs.Lists.{Words}
 use Rattle.lists.specs.Totals.{one}
-use Rattle.rows.specs.Rows.{Row, cut, wordOrder, thenBy, rowOrder, isLess, smaller, rising, putRow, putRows, sorted, takeRow, takeRows, hasRows}
-use Rattle.meaning.specs.Answers.{Outcome}
+use Rattle.rows.specs.Rows.{cut, wordOrder, thenBy, rowOrder, isLess, smaller, rising, putRow, putRows, sorted, takeRow, takeRows, hasRows}
 use Rattle.meaning.specs.Sheet.{sheetOf, goodCounts, goodEdge, goodCondition, goodListed, goodWords, goodTree, sheetRefusal}
 use Rattle.meaning.specs.Plan.{root, edgeInto, others, dep, depPlus, need, kept, isShown, shown, columns}
 use Rattle.meaning.specs.Plan.{size, start, storeLength, inOrder, tablePlan, goodPlan, plan}

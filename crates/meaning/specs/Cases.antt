@@ -2,16 +2,15 @@
 -- Assumes nothing.
 use Prim.Native.Nat.{ℕ}
 use mathlib.Core.Path.{_≡_}
-use mathlib.Core.Bool.{Bool, true, false}
+use mathlib.Core.Bool.{Bool}
 use mathlib.Core.List.{List, [], _∷_, _++_, map}
 use lib.Dec.{T, eqb→eq, eqb}
 use lib.ListN.{length, replicate}
 use Rattle.lists.specs.Lists.{Words, flat, sameLists}
 use Rattle.lists.proofs.Truth.{sameLists→≡}
 use Rattle.rows.specs.Rows.{Row, Rows, sameRow, cut, wordOrder, thenBy, rowOrder, isLess, smaller, rising, putRow, putRows, takeRow, takeRows, hasRows}
-use Rattle.meaning.specs.Answers.{Outcome}
 use Rattle.meaning.specs.Sheet.{sheetOf, goodCounts, goodEdge, goodCondition, goodListed, goodWords, goodTree, sheetRefusal}
-use Rattle.meaning.specs.Plan.{Plan, TablePlan, root, edgeInto, others, dep, depPlus, need, kept, isShown, shown}
+use Rattle.meaning.specs.Plan.{TablePlan, root, edgeInto, others, dep, depPlus, need, kept, isShown, shown}
 use Rattle.meaning.specs.Plan.{columns, size, start, storeLength, inOrder, tablePlan, goodPlan, plan}
 use Rattle.meaning.specs.Base.{Change, changeOf, goodChange, tied, sameTied, tiedStay}
 use Rattle.meaning.specs.Meaning.{meets, qualified, joins, listRow}

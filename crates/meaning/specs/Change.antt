@@ -1,14 +1,14 @@
 -- Document 01, "One change, on any sound store", with its refusals.
 -- Assumes nothing.
 use Prim.Native.Nat.{ℕ, zero, suc}
-use mathlib.Core.Bool.{Bool, true, false, cond, not, _&&_, _||_}
+use mathlib.Core.Bool.{Bool, true, cond, not, _&&_, _||_}
 use mathlib.Core.List.{List, [], _∷_, map}
 use lib.Dec.{eqb}
 use lib.ListN.{length, set}
 use Rattle.lists.specs.Lists.{Words, at, all, select, member, upTo, placeOf, choices}
 use Rattle.rows.specs.Rows.{Row, Rows, key, pick, sameRow, putRows, takeRows, hasRow, hasRows, hasKey}
 use Rattle.meaning.specs.Answers.{wrongLength, badChange, altersTied, notSound, contradiction, noRoom, unless, _orElse_, Outcome, refused}
-use Rattle.meaning.specs.Sheet.{Edge, Listed, Sheet, tables, width, sheetOf, sheetRefusal}
+use Rattle.meaning.specs.Sheet.{Listed, Sheet, tables, width, sheetOf, sheetRefusal}
 use Rattle.meaning.specs.Plan.{root, edgeInto, names, keyListed, kept, shown, storeLength}
 use Rattle.meaning.specs.Base.{Tables, rowsOf, Change, byKind, goodChange, tiedStay}
 use Rattle.meaning.specs.Meaning.{qualified, Way, joins, listRow, Model}

@@ -2,18 +2,18 @@
 -- Assumes nothing.
 use Prim.Native.Nat.{ℕ, _≤_, _<_}
 use mathlib.Core.Path.{_≡_}
-use mathlib.Core.Bool.{Bool, true, false, cond, _&&_, _||_}
+use mathlib.Core.Bool.{Bool, cond, _||_}
 use mathlib.Core.List.{List, [], _∷_, _++_, map}
 use mathlib.Core.Logic.{_⊎_}
 use lib.Dec.{T, ltb, leb, eqb}
 use lib.ListN.{length}
-use Rattle.lists.specs.Lists.{Words, select, member, flat}
-use Rattle.rows.specs.Rows.{Row, Rows, pick, sameRow, sorted}
+use Rattle.lists.specs.Lists.{Words, select, flat}
+use Rattle.rows.specs.Rows.{Row, pick, sameRow, sorted}
 use Rattle.meaning.specs.Answers.{Outcome}
-use Rattle.meaning.specs.Sheet.{Edge, Sheet, room, sheetOf, goodCounts, goodWords, goodTree, sheetRefusal}
+use Rattle.meaning.specs.Sheet.{Sheet, room, sheetOf, goodCounts, goodWords, goodTree, sheetRefusal}
 use Rattle.meaning.specs.Plan.{Plan, root, edgeInto, others, dep, depPlus, keyListed, need, kept, shown, storeLength, noPlan, plan}
 use Rattle.meaning.specs.Base.{Tables, rowsOf, Change, baseOf, goodBase, goodChange, tiedStay, lawfulChange, changed}
-use Rattle.meaning.specs.Meaning.{qualified, Way, Model, rowIn, ways, sideTable, theList, meaning}
+use Rattle.meaning.specs.Meaning.{qualified, Way, rowIn, ways, sideTable, theList, meaning}
 use Rattle.meaning.specs.Store.{Stretch, partRows, storeOf, modelOf, sound, rowsAt, fits, show}
 use Rattle.meaning.specs.Change.{modelAfter, agrees, change}
 use Rattle.meaning.specs.Fill.{fill}

@@ -1,7 +1,7 @@
 -- Document 01: the fill call. "Fill tests 1, 2, 3, 4, 10, 9", and "doesn't read the old store".
 -- Assumes nothing.
 use Prim.Native.Nat.{ℕ}
-use mathlib.Core.Bool.{Bool, true, false, cond}
+use mathlib.Core.Bool.{cond}
 use lib.Dec.{eqb}
 use lib.ListN.{length}
 use Rattle.lists.specs.Lists.{Words}
@@ -9,7 +9,7 @@ use Rattle.meaning.specs.Answers.{wrongLength, noRoom, badBase, unless, 
 use Rattle.meaning.specs.Sheet.{Sheet, sheetOf, sheetRefusal}
 use Rattle.meaning.specs.Plan.{storeLength}
 use Rattle.meaning.specs.Base.{baseOf, goodBase}
-use Rattle.meaning.specs.Meaning.{Model, meaning}
+use Rattle.meaning.specs.Meaning.{meaning}
 use Rattle.meaning.specs.Store.{storeOf, fits}
 
 unfoldable pub fillRefusal : Words → Words → Words → ℕ

@@ -1,10 +1,10 @@
 -- Document 01, "The sheet": a sheet as words, what its words say, and refusals 1 to 3.
 -- Assumes nothing.
 use Prim.Native.Nat.{ℕ, zero, suc, _+_, _*_, _-_}
-use mathlib.Core.Bool.{Bool, true, false, not, _&&_, _||_}
-use mathlib.Core.List.{List, [], _∷_, map}
+use mathlib.Core.Bool.{Bool, _&&_, _||_}
+use mathlib.Core.List.{List, map}
 use lib.Dec.{ltb, leb, eqb}
-use lib.ListN.{length, getD, take, drop}
+use lib.ListN.{length, take, drop}
 use Rattle.lists.specs.Lists.{Words, at, between, all, any, select, noneTwice, upTo}
 use Rattle.rows.specs.Rows.{Row, cut}
 use Rattle.meaning.specs.Limits.{mostTables, mostColumns, mostConditions, mostListed, mostRoom}

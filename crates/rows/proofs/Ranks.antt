@@ -16,7 +16,6 @@ use Rattle.lists.proofs.Totals.{total-sum, total-same, any-total}
 use Rattle.lists.proofs.Search.{Falls, many-le}
 use Rattle.rows.specs.declared.Order.{Order}
 use Rattle.rows.specs.declared.Order.the-variants.{Less, Equal, Greater}
-use Rattle.rows.specs.declared.Found.{Found}
 use Rattle.rows.specs.declared.Found.the-variants.{At, Missing}
 use Rattle.rows.specs.Rows.{Row, Rows, key, cut, rowOrder, smaller, sameRow, notAfter, rising, hasRow, hasKey}
 use Rattle.rows.specs.Ranks.{rank, rankAfter, times, rankKey, foundRow, foundKey}

@@ -17,7 +17,7 @@ use Rattle.rows.specs.declared.Found.{Found}
 use Rattle.rows.specs.declared.Found.the-variants.{At, Missing}
 use Rattle.rows.specs.Rows.{Row, Rows, cut, smaller, sameRow, notAfter, rising, putRow, hasRow, takeRow}
 use Rattle.rows.specs.Ranks.{rank, foundRow}
-use Rattle.rows.specs.Words.{row, raised, lowered, written, putWords, takeWords}
+use Rattle.rows.specs.Words.{raised, lowered, written, putWords, takeWords}
 use Rattle.rows.specs.Regions.{laid, putAt, takeAt, Region, Holds}
 use Rattle.rows.proofs.Ordered.{chain, smaller-greater, order-greater-differs, false-after, after-false, same-refl}
 use Rattle.rows.proofs.Sorted.{rising-first, rising-rest, rising-cons, rising-put}

@@ -8,7 +8,7 @@ use native.Mathlib.Omega.{arith}
 use lib.Dec.{T}
 use lib.ListN.{length}
 use borrow.Author.Tests.{lt-ltb}
-use Rattle.lists.specs.Lists.{Words, at, all, any, select}
+use Rattle.lists.specs.Lists.{Words, all, select}
 use Rattle.lists.specs.Totals.{total, one, Same}
 use Rattle.lists.proofs.Truth.{isT, same-test, and-false, all-cons, all-first, all-rest, and-both}
 use Rattle.lists.proofs.Totals.{total-length}

@@ -2,14 +2,15 @@
 -- where the words are as many as the counts say.
 -- Assumes nothing.
 use Prim.Native.Nat.{ℕ, zero, suc, _+_, _*_, _<_}
-use mathlib.Core.Path.{_≡_, refl, sym, ap, ap₂, _∙_, fun-ext}
+use mathlib.Core.Path.{_≡_, refl, sym, ap, ap₂, _∙_, subst, fun-ext}
 use mathlib.Core.List.{List, _∷_, _++_, map, map-map}
 use native.Mathlib.Nat.{zero-add}
 use native.Mathlib.Numerals.{add-one}
 use native.Mathlib.Omega.{arith}
 use lib.ListN.{length, take, drop, length-take, length-drop, length-map}
 use lib.Seq.{getD-take, getD-drop, ext-getD}
-use Rattle.lists.specs.Lists.{Words, at, upTo}
+use Rattle.lists.specs.Lists.{Words, at, Mem, upTo}
+use Rattle.lists.proofs.Truth.{mem-map, mem-upTo}
 use Rattle.lists.proofs.Places.{length-from, getD-map-from}
 use Rattle.rows.specs.Rows.{Row, Rows, cut}
 use Rattle.rows.proofs.Cut.{cut-zero, cut-suc, cut-split}
@@ -59,6 +60,10 @@ unfolding sheetOf
 edges-are ws =
     records edgeOf (edgeNo ws) 4 (edgeCount ws) (edgesAt ws) ws
     (λ i. four (λ c o p m. record { child = c; column = o; parent = p; promise = m }) i (edgesAt ws) ws)
+
+-- each edge is one of the sheet's
+pub edge-there : (ws : Words) (k : ℕ) → k < edgeCount ws → Mem (edgeNo ws k) (sheetOf ws .edges)
+edge-there ws k l = subst (Mem (edgeNo ws k)) (sym (edges-are ws)) (mem-map (edgeNo ws) (upTo (edgeCount ws)) k (mem-upTo (edgeCount ws) k l))
 
 pub conditions-are : (ws : Words) → sheetOf ws .conditions ≡ map (conditionNo ws) (upTo (conditionCount ws))
 unfolding sheetOf

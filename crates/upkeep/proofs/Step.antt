@@ -24,7 +24,7 @@ use Rattle.meaning.specs.Change.{insertEffect, effect, after, newKey, oldRow, f
 use Rattle.meaning.specs.Demands.{waysOf}
 use Rattle.laws.specs.Updates.{Tied}
 use Rattle.laws.specs.Sheets.{Good}
-use Rattle.laws.proofs.Lists.{by-set, Each, facts, facts-make}
+use Rattle.laws.proofs.Lists.{by-set, facts, facts-make}
 use Rattle.laws.proofs.Trees.{Promised, parent-other}
 use Rattle.laws.proofs.Keys.{has-mem, key-mem, take-mem, once-cons, once-same, once-take, key-gone, key-stays}
 use Rattle.laws.proofs.Qualified.{qualifiedOf}
