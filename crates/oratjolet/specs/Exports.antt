@@ -14,7 +14,11 @@ use Rattle.store.specs.Shows.{firstOf}
 use Rattle.plan_answer.specs.Answers.{answerOf}
 use Rattle.plan_answer.specs.declared.PlanAnswer.{PlanAnswer}
 
--- The plan call's 220 words: number, tables, root, store length, then eight marks, three times 64 marks, eight places, eight rooms
+-- How many words the plan call answers
+abbrev pub planLength : ℕ
+planLength = 220
+
+-- They are: number, tables, root, store length, then eight marks, three times 64 marks, eight places, eight rooms
 unfoldable pub planWords : PlanAnswer → Words
 planWords a = (a .number ∷ a .tables ∷ a .root ∷ a .store ∷ []) ++ a .kept ++ (a .columns ++ a .dep ++ a .need) ++ (a .starts ++ a .rooms)
 

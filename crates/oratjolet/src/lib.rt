@@ -4,14 +4,15 @@ use sheet::PLACES;
 use sheet::TABLES;
 use store::Answer;
 ghost use mathlib.Core.Path.{_≡_};
-ghost use Prim.Native.Nat.{_+_, _≤_};
+ghost use Prim.Native.Nat.{_+_, _*_, _≤_};
 ghost use mathlib.Core.List.{_++_};
 ghost use lib.ListN.{length};
+ghost use Rattle.meaning.specs.Limits.{mostTables, mostPlaces};
 ghost use Rattle.meaning.specs.Change.{change};
 ghost use Rattle.meaning.specs.Fill.{fill};
 ghost use Rattle.meaning.specs.Base.{changeOf};
 ghost use Rattle.text.specs.Writing.{PutAt};
-ghost use Rattle.oratjolet.specs.Exports.{planWords, PlanLeft, StretchLeft, Told, Left};
+ghost use Rattle.oratjolet.specs.Exports.{planLength, planWords, PlanLeft, StretchLeft, Told, Left};
 
 // What the plan call answers: four numbers, a mark for each table, three sets of marks, and where each table's part begins and its room.
 const PLAN_WORDS: usize = 4 + TABLES + 3 * PLACES + 2 * TABLES;
@@ -50,9 +51,9 @@ fn put_sets(
     out: &mut [u64],
     at: usize,
 ) -> usize
-    requires { ⌜ at + 192 ≤ length (now out) ⌝ }
+    requires { ⌜ at + 3 * mostPlaces ≤ length (now out) ⌝ }
     ensures { λ r. ⌜ PutAt (now (out .entry)) at (columns ++ dep ++ need) (now (out .exit)) r ⌝ }
-    ensures { λ r. ⌜ r ≡ at + 192 ⌝ }
+    ensures { λ r. ⌜ r ≡ at + 3 * mostPlaces ⌝ }
 {
     let a = put(&columns, out, at);
     let b = put(&dep, out, a);
@@ -61,9 +62,9 @@ fn put_sets(
 
 // Writes the numbers of each table: where its part of the store begins, and its room.
 fn put_parts(starts: [usize; TABLES], rooms: [usize; TABLES], out: &mut [u64], at: usize) -> usize
-    requires { ⌜ at + 16 ≤ length (now out) ⌝ }
+    requires { ⌜ at + 2 * mostTables ≤ length (now out) ⌝ }
     ensures { λ r. ⌜ PutAt (now (out .entry)) at (starts ++ rooms) (now (out .exit)) r ⌝ }
-    ensures { λ r. ⌜ r ≡ at + 16 ⌝ }
+    ensures { λ r. ⌜ r ≡ at + 2 * mostTables ⌝ }
 {
     let a = put_places(&starts, out, at);
     put_places(&rooms, out, a)
@@ -71,9 +72,9 @@ fn put_parts(starts: [usize; TABLES], rooms: [usize; TABLES], out: &mut [u64], a
 
 // Writes the plan call's answer field by field.
 fn put_plan(a: PlanAnswer, out: &mut [u64]) -> usize
-    requires { ⌜ length (now out) ≡ 220 ⌝ }
+    requires { ⌜ length (now out) ≡ planLength ⌝ }
     ensures { λ r. ⌜ PutAt (now (out .entry)) 0 (planWords a) (now (out .exit)) r ⌝ }
-    ensures { λ r. ⌜ r ≡ 220 ⌝ }
+    ensures { λ r. ⌜ r ≡ planLength ⌝ }
 {
     let head = [a.number, a.tables as u64, a.root as u64, a.store as u64];
     let kept = a.kept;

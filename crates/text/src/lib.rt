@@ -9,13 +9,13 @@ use reading::HELD;
 pub use reading::Reader;
 ghost use Prim.Native.Nat.{_≤_};
 ghost use Rattle.text.specs.Outcomes.{replyTo};
-ghost use Rattle.text.specs.Writing.{PutAt};
+ghost use Rattle.text.specs.Writing.{page, PutAt};
 
 // The text has ended: writes the plan of the words that it says, or `refused` and the number. A
 // reader that is full has more words than a sheet can have, and is refused for their number.
 pub fn reply(reader: Reader, out: &mut [u8; PAGE]) -> usize
     ensures { λ r. ⌜ PutAt (now (out .entry)) 0 (replyTo reader) (now (out .exit)) r ⌝ }
-    ensures { λ r. ⌜ r ≤ 1024 ⌝ }
+    ensures { λ r. ⌜ r ≤ page ⌝ }
 {
     let r = reader.finish();
     if r.failed {

@@ -10,7 +10,7 @@ ghost use Rattle.meaning.specs.Limits.{mostTables};
 ghost use Rattle.meaning.specs.Plan.{plan};
 ghost use Rattle.sheet_plan.specs.Marks.{markedIn};
 ghost use Rattle.text.specs.Laid.{setsIn, lineIn, linesIn, answerText};
-ghost use Rattle.text.specs.Writing.{PutAt};
+ghost use Rattle.text.specs.Writing.{page, PutAt};
 
 // Writes the bytes from `at` on, and answers where they end.
 fn put(bytes: &[u8], out: &mut [u8], at: usize) -> usize
@@ -197,9 +197,9 @@ pub const PAGE: usize = 1024;
 // Writes the text of the plan call's answer: 57 bytes at most, and 115 for each of eight tables.
 fn put_plan(a: PlanAnswer, out: &mut [u8]) -> usize
     requires { ⌜ a .tables ≤ mostTables ⌝ }
-    requires { ⌜ 1024 ≤ length (now out) ⌝ }
+    requires { ⌜ page ≤ length (now out) ⌝ }
     ensures { λ r. ⌜ PutAt (now (out .entry)) 0 (answerText a) (now (out .exit)) r ⌝ }
-    ensures { λ r. ⌜ r ≤ 1024 ⌝ }
+    ensures { λ r. ⌜ r ≤ page ⌝ }
 {
     if a.number != 0 {
         return put_refused(a.number, out, 0);
@@ -215,7 +215,7 @@ fn put_plan(a: PlanAnswer, out: &mut [u8]) -> usize
 // Writes the plan of any words, or `refused` and the number. There is room for every plan.
 pub fn put_plan_of(sheet: &[u64], out: &mut [u8; PAGE]) -> usize
     ensures { λ r. ⌜ PutAt (now (out .entry)) 0 (planText (plan (now (sheet .entry)))) (now (out .exit)) r ⌝ }
-    ensures { λ r. ⌜ r ≤ 1024 ⌝ }
+    ensures { λ r. ⌜ r ≤ page ⌝ }
 {
     let a = plan_answer::plan_of(sheet);
     put_plan(a, out)
@@ -224,7 +224,7 @@ pub fn put_plan_of(sheet: &[u64], out: &mut [u8; PAGE]) -> usize
 // Writes the refusal of a text that isn't such numbers.
 pub fn put_unread(out: &mut [u8; PAGE]) -> usize
     ensures { λ r. ⌜ PutAt (now (out .entry)) 0 (refusedText 1) (now (out .exit)) r ⌝ }
-    ensures { λ r. ⌜ r ≤ 1024 ⌝ }
+    ensures { λ r. ⌜ r ≤ page ⌝ }
 {
     put_refused(1, out, 0)
 }
