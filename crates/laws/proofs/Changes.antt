@@ -26,7 +26,7 @@ use Rattle.laws.specs.Sheets.{Good}
 use Rattle.laws.proofs.Lists.{by-set, facts}
 use Rattle.laws.proofs.Columns.{columns-side, columns-list, key-pick, list-row-length, with-length}
 use Rattle.laws.proofs.Keys.{once-put, once-take, key-gone, wide-map, wide-get, wide-puts, wide-takes}
-use Rattle.laws.proofs.Models.{part-side, part-list, by-part, Proper, rows-at, model-back, store-sound}
+use Rattle.laws.proofs.Models.{part-side, part-list, by-part, Proper, rows-at, store-sound}
 use Rattle.laws.proofs.Stores.{model-side, sound-proper}
 
 -- what holds of each kind of change that passes test 5 holds of every such change
@@ -241,9 +241,6 @@ module _ (s : Sheet) (g : Good s) (ws : Words) (c : Change) (ok : T (sound s ws)
 
   pub after-sound : T (fits s (modelAfter s ws c)) → T (sound s (storeOf s (modelAfter s ws c)))
   after-sound fit = store-sound s g (modelAfter s ws c) after-proper fit
-
-  pub after-back : T (fits s (modelAfter s ws c)) → modelOf s (storeOf s (modelAfter s ws c)) ≡ modelAfter s ws c
-  after-back fit = model-back s g (modelAfter s ws c) after-proper fit
 
   pub others-stay : T (fits s (modelAfter s ws c)) → (t : ℕ) → t < s .n → (t ≡ c .table → ⊥) → rowsAt s (storeOf s (modelAfter s ws c)) t ≡ rowsAt s ws t
   unfolding modelAfter

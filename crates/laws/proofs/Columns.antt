@@ -19,7 +19,7 @@ use Rattle.meaning.specs.Plan.{names, isListed, isChildColumn, kept, isShown, s
 use Rattle.meaning.specs.Meaning.{Way, rowIn, listRow}
 use Rattle.meaning.specs.Change.{widened, keyPlace, withColumns}
 use Rattle.laws.specs.Sheets.{Good}
-use Rattle.laws.proofs.Lists.{at-upTo, length-upTo}
+use Rattle.laws.proofs.Lists.{at-upTo}
 
 -- how many columns a part's rows have
 pub columns-side : (s : Sheet) (t : ℕ) → t < s .n → T (kept s t) → columns s t ≡ length (shown s t)
@@ -54,10 +54,6 @@ pub widened-pick : (s : Sheet) (t : ℕ) (r : Row) (c : ℕ) → Mem c (shown s 
 unfolding widened
 widened-pick s t r c m =
     at-upTo (λ c. at (pick (shown s t) r) (placeOf c (shown s t))) 0 (width s t) c (shown-below s t c m) ∙ pick-place r c (shown s t) m
-
-pub widened-length : (s : Sheet) (t : ℕ) (r : Row) → length (widened s t r) ≡ width s t
-unfolding widened
-widened-length s t r = length-upTo (λ c. at r (placeOf c (shown s t))) (width s t)
 
 module _ (s : Sheet) (g : Good s) where
   shown-is : (t c : ℕ) → c < width s t → T (isShown s t c) → Mem c (shown s t)

@@ -2,26 +2,24 @@
 -- Assumes nothing.
 use Prim.Native.Nat.{ℕ, _<_, _≤_}
 use mathlib.Core.Path.{_≡_, refl, sym, ap, ap₂, _∙_, subst}
-use mathlib.Core.Bool.{Bool, true, false, cond, not, _&&_, _||_, true≢false}
+use mathlib.Core.Bool.{true, not, _&&_}
 use mathlib.Core.List.{[], _∷_, map}
 use native.Mathlib.Nat.{not-suc-le-zero}
 use native.Mathlib.Omega.{arith}
 use lib.Dec.{T, ltb, eqb, ltb→lt, lt→ltb}
-use lib.ListN.{length, getD, set}
+use lib.ListN.{set}
 use lib.Seq.{map-set-same}
-use Rattle.lists.specs.Lists.{Mem, all, any, select, rises}
+use Rattle.lists.specs.Lists.{Mem, all, any, rises}
 use Rattle.lists.proofs.Totals.{total-cons, total-set}
-use Rattle.lists.proofs.Rises.{rises-at}
-use Rattle.lists.proofs.Truth.{F→not, not→F, same-test, and-fst, and-snd, and-both, all-get, all-make, any-get, any-make, mem-map, map-mem, mem-getD}
+use Rattle.lists.proofs.Truth.{F→not, not→F, same-test, and-fst, and-snd, and-both, all-get, all-make, any-get, any-make, mem-map, map-mem}
 use Rattle.lists.proofs.Truth.{eq→eqb, eqb→≡}
-use Rattle.rows.specs.Rows.{Row, Rows, key, rowOrder, thenBy, isLess, smaller, notAfter, rising, putRow, takeRow, hasKey, noKeyTwice}
-use Rattle.rows.specs.Ranks.{rankKey}
+use Rattle.rows.specs.Rows.{Row, Rows, key, rowOrder, thenBy, isLess, smaller, notAfter, rising, putRow, takeRow, noKeyTwice}
 use Rattle.rows.specs.Regions.{keysRise}
-use Rattle.rows.proofs.Ordered.{Compared, lt, eq, gt, compared, word-less, false-after, smaller-once}
+use Rattle.rows.proofs.Ordered.{word-less, false-after, smaller-once}
 use Rattle.rows.proofs.Sorted.{rising-first, rising-rest, rising-cons, rising-put, rising-take, same-rising, total-put, same-take}
 use Rattle.rows.proofs.Search.{key-up}
-use Rattle.rows.proofs.Ranks.{rankKey-at, There}
-use Rattle.rows.proofs.Pairs.{keyLess, keys-are}
+use Rattle.rows.proofs.Ranks.{There}
+use Rattle.rows.proofs.Pairs.{keyLess}
 
 pub key-smaller : (r s : Row) → key r < key s → smaller r s ≡ true
 unfolding smaller rowOrder thenBy isLess
@@ -70,36 +68,6 @@ pub keys-rise : (rows : Rows) → keysRise rows ≡ (rising rows && noKeyTwice r
 keys-rise rows =
     same-test (keysRise rows) (rising rows && noKeyTwice rows) (up-once rows)
     (λ h. once-up rows (and-fst (rising rows) (noKeyTwice rows) h) (and-snd (rising rows) (noKeyTwice rows) h))
-
--- a selection that none passes
-pub select-none : (p : Row → Bool) (rows : Rows) → any p rows ≡ false → select p rows ≡ []
-select-none p [] e = refl
-select-none p (r ∷ rows) e = go (p r) (select-none p rows) e
-  where
-    go : (b : Bool) → (any p rows ≡ false → select p rows ≡ []) → (b || any p rows) ≡ false → cond b (r ∷ select p rows) (select p rows) ≡ []
-    go true ih e = absurd (true≢false e)
-    go false ih e = ih e
-
--- the keys of a side table
-module _ (rows : Rows) (u : T (rising rows)) (once : T (noKeyTwice rows)) where
-  pub keys-at : (i j : ℕ) → i < j → j < length rows → key (getD rows i []) < key (getD rows j [])
-  keys-at i j l m =
-      ltb→lt (key (getD rows i [])) (key (getD rows j [])) (rises-at keyLess [] rows (subst T (keys-are rows) (once-up rows u once)) i j l m)
-
-  -- a key stands at its place and nowhere else
-  pub only-at : (k i : ℕ) → i < length rows → key (getD rows i []) ≡ k → i ≡ rankKey k rows
-  only-at k i l e =
-      let has : T (hasKey k rows) = any-make (λ r. eqb k (key r)) rows (getD rows i []) (mem-getD [] rows i l) (eq→eqb (sym e)) in
-      let p = rankKey-at k rows u has in
-      go (compared i (rankKey k rows)) (p .0) (p .1)
-    where
-      go : Compared i (rankKey k rows) → rankKey k rows < length rows → key (getD rows (rankKey k rows) []) ≡ k → i ≡ rankKey k rows
-      go (lt h) m q = absurd (omega (arith, keys-at i (rankKey k rows) h m))
-      go (eq h) m q = h
-      go (gt h) m q = absurd (omega (arith, keys-at (rankKey k rows) i h l))
-
-pub select-key-none : (k : ℕ) (rows : Rows) → hasKey k rows ≡ false → select (λ r. eqb k (key r)) rows ≡ []
-select-key-none k rows e = select-none (λ r. eqb k (key r)) rows e
 
 -- A side table's row replaced by one with the same key
 keys-numbers : (rows : Rows) → keysRise rows ≡ rises ltb (map key rows)

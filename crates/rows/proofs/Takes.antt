@@ -2,7 +2,7 @@
 -- Assumes nothing.
 use Prim.Native.Nat.{ℕ, _+_, _-_, _≤_}
 use mathlib.Core.Path.{_≡_, refl, sym, ap, ap₂, _∙_, subst}
-use mathlib.Core.Bool.{Bool, true, false, cond, not, _&&_}
+use mathlib.Core.Bool.{Bool, true, false, cond, _&&_}
 use mathlib.Core.List.{[], _∷_, _++_}
 use native.Mathlib.Omega.{arith}
 use lib.Dec.{T}
@@ -12,11 +12,11 @@ use Rattle.lists.specs.Lists.{Words, all, select}
 use Rattle.lists.specs.Totals.{total, one, Same}
 use Rattle.lists.proofs.Truth.{isT, same-test, and-false, all-cons, all-first, all-rest, and-both}
 use Rattle.lists.proofs.Totals.{total-length}
-use Rattle.rows.specs.Rows.{Row, Rows, sameRow, notAfter, rising, putRows, hasRow, hasRows, takeRow, takeRows}
+use Rattle.rows.specs.Rows.{Row, Rows, sameRow, rising, putRows, hasRow, hasRows, takeRow, takeRows}
 use Rattle.rows.specs.Ranks.{times}
 use Rattle.rows.specs.Marks.{unmarked, Tallied, Marking}
 use Rattle.rows.proofs.Ordered.{same→≡, same-refl}
-use Rattle.rows.proofs.Sorted.{rising-first, rising-rest, rising-cons, rising-takes, total-puts, same-times, same-rising, same-takes}
+use Rattle.rows.proofs.Sorted.{rising-takes, total-puts, same-times, same-takes}
 use Rattle.rows.proofs.Ranks.{has-times}
 
 -- How often a row is left
@@ -108,36 +108,6 @@ all-select q p (r ∷ rows) h = go (p r) (all-select q p rows (all-rest q r rows
     go : (b : Bool) → T (all q (select p rows)) → T (all q (cond b (r ∷ select p rows) (select p rows)))
     go true ih = all-cons q r (select p rows) (all-first q r rows h) ih
     go false ih = ih
-
-pub rising-select : (p : Row → Bool) (rows : Rows) → T (rising rows) → T (rising (select p rows))
-rising-select p [] u = u
-rising-select p (r ∷ rows) u = go (p r) (rising-select p rows (rising-rest r rows u))
-  where
-    go : (b : Bool) → T (rising (select p rows)) → T (rising (cond b (r ∷ select p rows) (select p rows)))
-    go true ih = rising-cons r (select p rows) (all-select (notAfter r) p rows (rising-first r rows u)) ih
-    go false ih = ih
-
-two-parts : (f : Row → ℕ) (p : Row → Bool) (rows : Rows) → total f rows ≡ total f (select p rows) + total f (select (λ r. not (p r)) rows)
-unfolding total
-two-parts f p [] = refl
-two-parts f p (r ∷ rows) = go (p r) (two-parts f p rows)
-  where
-    rest : Rows
-    rest = select (λ r. not (p r)) rows
-
-    go : (b : Bool) → total f rows ≡ total f (select p rows) + total f rest
-        → f r + total f rows ≡ total f (cond b (r ∷ select p rows) (select p rows)) + total f (cond (not b) (r ∷ rest) rest)
-    go true ih = omega arith
-    go false ih = omega arith
-
-pub has-select : (p : Row → Bool) (rows : Rows) → T (hasRows (select p rows) rows)
-unfolding times
-has-select p rows = count-has (select p rows) rows (λ q. omega (arith, two-parts (λ s. one (sameRow q s)) p rows))
-
-pub takes-select : (p : Row → Bool) (rows : Rows) → T (rising rows) → takeRows (select p rows) rows ≡ select (λ r. not (p r)) rows
-takes-select p rows u =
-    same-rising _ _ (rising-takes (select p rows) rows u) (rising-select (λ r. not (p r)) rows u)
-    (λ f. omega (arith, same-takes (select p rows) rows (has-select p rows) f, two-parts f p rows))
 
 -- Rows marked one by one: those done leave, each as often as it was marked
 pub record Taken (done rows : Rows) (marks : Words) : Type 0 where
