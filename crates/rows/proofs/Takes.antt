@@ -1,4 +1,4 @@
--- Many rows taken out or put in: how often each row is left, so that their order does not matter; and rows taken by a test.
+-- Many rows taken out or put in: how often each row is left, so that their order does not matter; and rows marked one by one.
 -- Assumes nothing.
 use Prim.Native.Nat.{ℕ, _+_, _-_, _≤_}
 use mathlib.Core.Path.{_≡_, refl, sym, ap, ap₂, _∙_, subst}
