@@ -7,6 +7,7 @@ pub mod Search
 pub mod Ranks
 pub mod Moves
 pub mod Regions
+pub mod Shifts
 pub mod Marks
 pub mod Keys
 pub mod Takes
