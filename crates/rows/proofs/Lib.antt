@@ -9,6 +9,7 @@ pub mod Moves
 pub mod Regions
 pub mod Shifts
 pub mod Marks
+pub mod Tallies
 pub mod Keys
 pub mod Takes
 pub mod Sound
