@@ -1,8 +1,9 @@
 pub mod Words
+pub mod Altering
 pub mod Given
+pub mod OneByOne
 pub mod Rewrites
 pub mod Altered
-pub mod Altering
 pub mod Lists
 pub mod Firsts
 pub mod Putting

@@ -22,7 +22,7 @@ rowPut p ws k r = splice ws (p .start) (stopOf p) (written (wordsIn p ws) (k * p
 
 -- the store with r's values in table t's columns of the part's marked rows
 abbrev pub rowsGiven : Words → ℕ → Row → Words → Part → Words → Words
-rowsGiven sheet t r marks p ws = splice ws (p .start) (stopOf p) (given sheet t r marks (countIn p ws) (wordsIn p ws))
+rowsGiven sheet t r numbers p ws = splice ws (p .start) (stopOf p) (given sheet t r numbers (countIn p ws) (wordsIn p ws))
 
 -- count rows stand in the part, in any order, and zeros after them
 pub record Loose (p : Part) (count : ℕ) (ws : Words) : Type 0 where

@@ -5,6 +5,7 @@ ghost use mathlib.Core.Path.{_≡_};
 ghost use Prim.Native.Nat.{ℕ, _<_, _≤_};
 ghost use lib.ListN.{length};
 ghost use Rattle.rows.specs.Rows.{sorted};
+ghost use Rattle.rows.specs.Marks.{Numbers};
 ghost use Rattle.meaning.specs.Limits.{mostListed};
 ghost use Rattle.meaning.specs.Sheet.{listedCount};
 ghost use Rattle.sheet.specs.Rules.{Rules};
@@ -26,21 +27,21 @@ pub fn put_behind(store: &mut [u64], p: Part, k: usize, r: &[u64])
     rows::write_over(&mut store[from..to], place, r);
 }
 
-// Each marked row of the part gets r's values in table t's columns, where it stands.
-pub fn give_rows(sheet: &[u64], store: &mut [u64], p: Part, marks: &[u16], t: usize, r: &[u64])
+// The part's rows at these numbers get r's values in table t's columns, where they stand.
+pub fn give_rows(sheet: &[u64], store: &mut [u64], p: Part, numbers: &[u16], t: usize, r: &[u64])
     requires { ⌜ Rules (now sheet) ⌝ }
     requires { ⌜ Fits (now sheet) t (now r) ⌝ }
     requires { ⌜ Kept p (now store) ⌝ }
     requires { ⌜ p .columns ≡ listedCount (now sheet) ⌝ }
-    requires { ⌜ countIn p (now store) ≤ length (now marks) ⌝ }
-    ensures { λ _. ⌜ now (store .exit) ≡ rowsGiven (now (sheet .entry)) t (now (r .entry)) (now (marks .entry)) p (now (store .entry)) ⌝ }
+    requires { ⌜ Numbers (countIn p (now store)) (now numbers) ⌝ }
+    ensures { λ _. ⌜ now (store .exit) ≡ rowsGiven (now (sheet .entry)) t (now (r .entry)) (now (numbers .entry)) p (now (store .entry)) ⌝ }
 {
     let slot = p.slot;
     let from = p.start;
     let w = p.columns;
     let to = from + p.room * w;
     let count = store[slot] as usize;
-    give_marked(sheet, &mut store[from..to], count, marks, t, r);
+    give_marked(sheet, &mut store[from..to], count, numbers, t, r);
 }
 
 // The first count rows of the part, of which `loose` may be out of place, are put in order and are its rows from then on.

@@ -243,7 +243,7 @@ region-take w (suc n) i s y z g l moved cleared =
     }))
 
 -- The whole of `replace`
-cut-written : (w n i : ℕ) (r : Row) (s : Words) → i < n → n * w ≤ length s → length r ≡ w → cut w n (written s (i * w) r w) ≡ set (cut w n s) i r
+pub cut-written : (w n i : ℕ) (r : Row) (s : Words) → i < n → n * w ≤ length s → length r ≡ w → cut w n (written s (i * w) r w) ≡ set (cut w n s) i r
 unfolding written
 cut-written w n i r s l fits len =
     let f = i * w in
@@ -262,22 +262,31 @@ cut-written w n i r s l fits len =
     rw (cut-split w i (suc b) (take f s ++ tail), front, back, cut-cons w b r (drop (f + w) s) len) in
     ap (cut w n) t ∙ (rw e at c) ∙ sym (rw (set-split (cut w n s) i r (rw cut-length l), a, d))
 
-pub region-replace : (w n i : ℕ) (r : Row) (s z : Words) → Region w n s → i < n → length r ≡ w → T (rising (set (cut w n s) i r))
-    → z ≡ written s (i * w) r (length r) → Holds w n (set (cut w n s) i r) z
+pub written-behind : (w n i : ℕ) (r : Row) (s : Words) → i < n → n * w ≤ length s → length r ≡ w
+    → drop (n * w) (written s (i * w) r w) ≡ drop (n * w) s
 unfolding written
-region-replace w n i r s z g l len u ez′ =
+written-behind w n i r s l fits len =
     let f = i * w in
-    let ez : z ≡ written s f r w = ez′ ∙ ap (written s f r) len in
     let h : f + w ≤ n * w = row-fits w n i (n * w) l (le-refl (n * w)) in
-    let fits : n * w ≤ length s = g .fits in
-    let c : cut w n z ≡ set (cut w n s) i r = rw ez (cut-written w n i r s l fits len) in
     let head : Words = take f s ++ take w r in
     let hl : length head ≡ f + w = simp (length-append, length-take) (omega arith) in
-    let zl : length z ≡ length s = rw ez (simp (length-append, length-take, length-drop) (omega arith)) in
     let m : f + w + (n * w - (f + w)) ≡ n * w = omega arith in
-    let d : drop (n * w) z ≡ drop (n * w) s =
-    rw (← m, ← drop-drop (n * w - (f + w)) (f + w) z, ← drop-drop (n * w - (f + w)) (f + w) s, ez, drop-at head (drop (f + w) s) (f + w) hl) in
-    holds w n (set (cut w n s) i r) z c (record { fits = omega arith; up = rw c u; zeros = rw d (g .zeros) })
+    rw (← m, ← drop-drop (n * w - (f + w)) (f + w) (head ++ drop (f + w) s), ← drop-drop (n * w - (f + w)) (f + w) s, drop-at head (drop (f + w) s) (f + w) hl)
+
+pub written-long : (w n i : ℕ) (r : Row) (s : Words) → i < n → n * w ≤ length s → length r ≡ w → length (written s (i * w) r w) ≡ length s
+unfolding written
+written-long w n i r s l fits len =
+    let h : i * w + w ≤ n * w = row-fits w n i (n * w) l (le-refl (n * w)) in
+    simp (length-append, length-take, length-drop) (omega arith)
+
+pub region-replace : (w n i : ℕ) (r : Row) (s z : Words) → Region w n s → i < n → length r ≡ w → T (rising (set (cut w n s) i r))
+    → z ≡ written s (i * w) r (length r) → Holds w n (set (cut w n s) i r) z
+region-replace w n i r s z g l len u ez′ =
+    let ez : z ≡ written s (i * w) r w = ez′ ∙ ap (written s (i * w) r) len in
+    let c : cut w n z ≡ set (cut w n s) i r = rw ez (cut-written w n i r s l (g .fits) len) in
+    let zl : length z ≡ length s = ap length ez ∙ written-long w n i r s l (g .fits) len in
+    let d : drop (n * w) z ≡ drop (n * w) s = ap (drop (n * w)) ez ∙ written-behind w n i r s l (g .fits) len in
+    holds w n (set (cut w n s) i r) z c (record { fits = omega (arith, g .fits); up = rw c u; zeros = rw d (g .zeros) })
 
 -- `take`: by what `find` answered
 module _ (w n : ℕ) (r : Row) (s : Words) (f : Found) (g : Region w n s) (e : f ≡ foundRow r (cut w n s)) where
