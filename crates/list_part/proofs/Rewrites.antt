@@ -7,7 +7,7 @@ use native.Mathlib.Nat.{mul-le-mul-right}
 use native.Mathlib.Omega.{arith}
 use lib.Dec.{T, eqb}
 use lib.ListN.{length, take, drop, set, length-append, take-append-drop}
-use lib.Seq.{drop-drop}
+use lib.Seq.{take-at, drop-drop}
 use borrow.Rule.Slice.PartMut.{putMid}
 use Rattle.lists.specs.Lists.{Words, all}
 use Rattle.lists.specs.Parts.{part, splice}
@@ -15,15 +15,15 @@ use Rattle.lists.proofs.Parts.{drop-splice}
 use Rattle.rows.specs.Rows.{Row, Rows, Wide, cut, rising, sorted}
 use Rattle.rows.specs.Words.{written}
 use Rattle.rows.specs.Regions.{laid}
-use Rattle.rows.proofs.Cut.{row-fits, wide-first, wide-rest, wide-cons, cut-length, wide-cut}
+use Rattle.rows.proofs.Cut.{row-fits, wide-first, wide-rest, wide-cons, cut-length, cut-zero, take-cut, wide-cut}
 use Rattle.rows.proofs.Regions.{region-words, holds}
-use Rattle.rows.proofs.Sorted.{rising-sorted}
+use Rattle.rows.proofs.Sorted.{rising-none, rising-sorted}
 use Rattle.places.proofs.Laid.{laid-long, laid-more, laid-zeros, laid-cut}
 use Rattle.places.proofs.Splices.{length-splice, part-splice, take-splice}
 use Rattle.store.specs.declared.Part.{Part}
 use Rattle.store.proofs.Parts.{part-long, wrote}
 use Rattle.store.specs.Parts.{sizeOf, stopOf, wordsIn, countIn, rowsIn, Within, Kept, withRows, Wrote}
-use Rattle.list_part.specs.Loose.{rowPut, Loose, looseRows, Behind}
+use Rattle.list_part.specs.Loose.{rowPut, Loose, looseRows, Standing, Behind}
 
 -- a part put in twice, and one put in where it was
 spliced-as : (s : Words) (a b : ℕ) (y : Words) → splice s a b y ≡ take a s ++ (y ++ drop b s)
@@ -140,6 +140,19 @@ module _ (p : Part) (old : Words) (win : Within p old) (rows : Rows) (ws : Words
         (subst (λ (l : Words). Wrote p (sorted rows) l exit) (be .words)
         (subst (λ (l : Rows). Wrote p (sorted l) ws exit) behind-rows w))
 
+  -- those that stood there first rise still
+  pub behind-stand : (first more : Rows) (stand k : ℕ) → rows ≡ first ++ more → stand ≡ length first → k ≡ length rows → T (rising first)
+      → Standing p stand k ws
+  unfolding looseRows
+  behind-stand first more stand k e n m up =
+      let w = p .columns in
+      let l : k ≡ stand + length more = m ∙ ap length e ∙ length-append first more ∙ ap (λ (a : ℕ). a + length more) (sym n) in
+      let whole : cut w (stand + length more) (wordsIn p ws) ≡ first ++ more =
+      ap (λ (a : ℕ). cut w a (wordsIn p ws)) (sym l) ∙ ap (λ (a : ℕ). cut w a (wordsIn p ws)) m ∙ rows-are ∙ e in
+      let is : cut w stand (wordsIn p ws) ≡ first =
+      sym (take-cut w stand (length more) (wordsIn p ws)) ∙ ap (take stand) whole ∙ take-at first more stand (sym n) in
+      record { fits = omega arith; up = subst (λ (l : Rows). T (rising l)) (sym is) up }
+
   -- one row more
   module _ (r : Row) (wide : length r ≡ p .columns) (l : length rows < p .room) where
     at-end : written (laid (sizeOf p) rows) (length rows * p .columns) r (p .columns) ≡ laid (sizeOf p) (rows ++ (r ∷ []))
@@ -154,6 +167,11 @@ module _ (p : Part) (old : Words) (win : Within p old) (rows : Rows) (ws : Words
           wide = wide-append (p .columns) rows r (be .wide) wide;
           fits = omega (arith, length-append rows (r ∷ []));
         }
+
+-- no row needs to stand
+pub none-stand : (p : Part) (count : ℕ) (ws : Words) → Standing p 0 count ws
+unfolding looseRows
+none-stand p count ws = record { fits = omega arith; up = rw (cut-zero (p .columns) (wordsIn p ws)) rising-none }
 
 -- room for row k, and that many rows
 module _ (p : Part) (ws : Words) (win : Within p ws) where

@@ -8,7 +8,7 @@ use lib.Dec.{T, eqb}
 use lib.ListN.{length, drop}
 use Rattle.lists.specs.Lists.{Words, all}
 use Rattle.lists.specs.Parts.{splice}
-use Rattle.rows.specs.Rows.{Row, Rows, Wide, cut}
+use Rattle.rows.specs.Rows.{Row, Rows, Wide, cut, rising}
 use Rattle.rows.specs.Words.{written}
 use Rattle.rows.specs.Regions.{laid}
 use Rattle.meaning.specs.Sheet.{Sheet}
@@ -32,6 +32,11 @@ pub record Loose (p : Part) (count : ℕ) (ws : Words) : Type 0 where
 
 unfoldable pub looseRows : Part → ℕ → Words → Rows
 looseRows p count ws = cut (p .columns) count (wordsIn p ws)
+
+-- of these the first `stand` rise
+pub record Standing (p : Part) (stand count : ℕ) (ws : Words) : Type 0 where
+  pub fits : stand ≤ count
+  pub up : T (rising (looseRows p stand ws))
 
 -- ws is the old store with these rows in the part, in any order, and zeros after them
 pub record Behind (p : Part) (old : Words) (rows : Rows) (ws : Words) : Type 0 where

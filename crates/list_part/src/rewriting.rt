@@ -11,7 +11,7 @@ ghost use Rattle.meaning.specs.Sheet.{listedCount};
 ghost use Rattle.sheet.specs.Rules.{Rules};
 ghost use Rattle.store.specs.Parts.{countIn, Within, Kept, Wrote};
 ghost use Rattle.list_part.specs.Gives.{Fits};
-ghost use Rattle.list_part.specs.Loose.{rowPut, rowsGiven, Loose, looseRows};
+ghost use Rattle.list_part.specs.Loose.{rowPut, rowsGiven, Loose, looseRows, Standing};
 
 // r becomes row k of the part; its count stays.
 pub fn put_behind(store: &mut [u64], p: Part, k: usize, r: &[u64])
@@ -44,16 +44,18 @@ pub fn give_rows(sheet: &[u64], store: &mut [u64], p: Part, numbers: &[u16], t: 
     give_marked(sheet, &mut store[from..to], count, numbers, t, r);
 }
 
-// The first count rows of the part, of which `loose` may be out of place, are put in order and are its rows from then on.
-pub fn settle_rows(store: &mut [u64], p: Part, count: usize, loose: usize)
+// The first count rows of the part, of which the first `stand` rise, are put in order and are its rows from then on.
+pub fn settle_rows(store: &mut [u64], p: Part, stand: usize, count: usize)
     requires { ⌜ Loose p count (now store) ⌝ }
+    requires { ⌜ 0 < p .columns ⌝ }
     requires { ⌜ p .columns ≤ mostListed ⌝ }
+    requires { ⌜ Standing p stand count (now store) ⌝ }
     ensures { λ _. ⌜ Wrote p (sorted (looseRows p count (now (store .entry)))) (now (store .entry)) (now (store .exit)) ⌝ }
 {
     let slot = p.slot;
     let from = p.start;
     let w = p.columns;
     let to = from + p.room * w;
-    sorting::settle(&mut store[from..to], w, count, loose);
+    sorting::settle(&mut store[from..to], w, stand, count);
     store[slot] = count as u64;
 }
