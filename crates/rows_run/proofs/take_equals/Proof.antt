@@ -1,60 +1,68 @@
--- `rows_run::take_equals` has marks enough for the rows that are left.
--- Assumes nothing.
-use Prim.Native.Nat.{ℕ, _≤_, _*_}
-use mathlib.Core.Path.{_≡_, ap}
-use mathlib.Core.List.{List}
-use lib.ListN.{length, replicate}
-use Rattle.rows.specs.Rows.{cut}
-use Rattle.rows.specs.Tallies.{Tallied}
-use Rattle.rows.proofs.Tallies.{tallied-none}
 use borrow.Author.Needs.{needs}
 use native.Mathlib.Omega.{arith}
+use borrow.Author.Needs.{needs}
 use Rattle.rows_run.proofs.take_equals.Statement.{statement}
 use Rattle.rows_run.proofs.take_equals.Tie as tie
+use Rattle.rows_run.proofs.take_equals.Reads as reads
+use Rattle.rows_run.proofs.take_equals.Lts as lts
+use Rattle.rows.proofs.take.Reads as take-reads
+use Rattle.rows.proofs.take_marked.Reads as take-marked-reads
+use Rattle.rows_run.proofs.mark_words.Reads as mark-words-reads
+use Rattle.rows_run.proofs.say.Reads as say-reads
 
--- six marks are enough
-fresh : (n : ℕ) (s marks : List ℕ) → marks ≡ replicate 6 0 → n * 1 ≤ length s → length s ≡ 6 → Tallied (cut 1 n s) marks
-fresh n s marks e h l = rw e (tallied-none 1 n s 6 (omega arith) (omega arith))
-
+-- src/main.rt:181:36
 slice-aggregate-take : tie.Need-slice-aggregate-take
 slice-aggregate-take c = search needs
 
+-- src/main.rt:181:9
 take-requires : tie.Need-take-requires
 take-requires c κs = search needs
 
+-- src/main.rt:182:9
 mark-words-requires : tie.Need-mark-words-requires
-mark-words-requires c κs =
-    let taken = c .before .before .before .before in
-    let start = taken .before .before .before .before .before in
-    let region = taken .take .ensures .region in
-    (region, fresh _ _ _ (start .pre .1 .0) (region .fits) (omega arith))
+mark-words-requires c κs = search needs
 
+-- src/main.rt:183:35
+slice-reshare-prefix-take-marked : tie.Need-slice-reshare-prefix-take-marked
+slice-reshare-prefix-take-marked c = search needs
+
+-- src/main.rt:183:35
+slice-aggregate-take-marked : tie.Need-slice-aggregate-take-marked
+slice-aggregate-take-marked c = search needs
+
+-- src/main.rt:183:5
 take-marked-requires : tie.Need-take-marked-requires
-take-marked-requires c κs =
-    let marked = c .before .before .before .before in
-    let taken = marked .before .before .before .before .before in
-    let start = taken .before .before .before .before .before in
-    let region = taken .take .ensures .region in
-    (region, omega (arith, region .fits, ap length (start .pre .1 .0)))
+take-marked-requires c κs = search needs
 
+-- src/main.rt:184:9
 slice-aggregate-say : tie.Need-slice-aggregate-say
 slice-aggregate-say c = search needs
 
+-- src/main.rt:184:5
 say-requires : tie.Need-say-requires
 say-requires c κs = search needs
 
+-- src/main.rt:185:9
 slice-aggregate-say-2 : tie.Need-slice-aggregate-say-2
 slice-aggregate-say-2 c = search needs
 
+-- src/main.rt:185:19
+sub-say : tie.Need-sub-say
+sub-say c = search needs
+
+-- src/main.rt:185:5
 say-requires-2 : tie.Need-say-requires-2
 say-requires-2 c κs = search needs
 
+-- src/main.rt:176:1
 same-length : tie.Need-same-length
 same-length c = search needs
 
+-- src/main.rt:176:1
 same-length-2 : tie.Need-same-length-2
 same-length-2 c = search needs
 
+-- src/main.rt:176:1
 returns : tie.Need-returns
 returns c = search needs
 
@@ -65,10 +73,13 @@ take-equals-spec =
     slice-aggregate-take
     take-requires
     mark-words-requires
+    slice-reshare-prefix-take-marked
+    slice-aggregate-take-marked
     take-marked-requires
     slice-aggregate-say
     say-requires
     slice-aggregate-say-2
+    sub-say
     say-requires-2
     same-length
     same-length-2
