@@ -1,68 +1,59 @@
+-- `rows_run::take_equals` has room for the numbers of the rows that are left.
+-- Assumes nothing.
+use Prim.Native.Nat.{ℕ, _≤_}
+use mathlib.Core.Path.{sym}
+use mathlib.Core.List.{List}
+use lib.Seq.{length-take-le}
+use Rattle.rows.specs.Marks.{Run}
+use Rattle.rows.proofs.Runs.{numbers-few}
 use borrow.Author.Needs.{needs}
 use native.Mathlib.Omega.{arith}
-use borrow.Author.Needs.{needs}
 use Rattle.rows_run.proofs.take_equals.Statement.{statement}
 use Rattle.rows_run.proofs.take_equals.Tie as tie
-use Rattle.rows_run.proofs.take_equals.Reads as reads
-use Rattle.rows_run.proofs.take_equals.Lts as lts
-use Rattle.rows.proofs.take.Reads as take-reads
-use Rattle.rows.proofs.take_marked.Reads as take-marked-reads
-use Rattle.rows_run.proofs.mark_words.Reads as mark-words-reads
-use Rattle.rows_run.proofs.say.Reads as say-reads
 
--- src/main.rt:181:36
+-- no more rows are marked than there are
+few : (n k : ℕ) (numbers : List ℕ) → Run n numbers k → k ≤ n
+few n k numbers run = omega (arith, numbers-few (run .is), length-take-le k numbers (run .filled))
+
 slice-aggregate-take : tie.Need-slice-aggregate-take
 slice-aggregate-take c = search needs
 
--- src/main.rt:181:9
 take-requires : tie.Need-take-requires
 take-requires c κs = search needs
 
--- src/main.rt:182:9
 mark-words-requires : tie.Need-mark-words-requires
 mark-words-requires c κs = search needs
 
--- src/main.rt:183:35
 slice-reshare-prefix-take-marked : tie.Need-slice-reshare-prefix-take-marked
 slice-reshare-prefix-take-marked c = search needs
 
--- src/main.rt:183:35
 slice-aggregate-take-marked : tie.Need-slice-aggregate-take-marked
-slice-aggregate-take-marked c = search needs
+slice-aggregate-take-marked c = sym (length-take-le _ _ (c .before .before .before .before .mark-words .ensures .filled))
 
--- src/main.rt:183:5
 take-marked-requires : tie.Need-take-marked-requires
 take-marked-requires c κs = search needs
 
--- src/main.rt:184:9
 slice-aggregate-say : tie.Need-slice-aggregate-say
 slice-aggregate-say c = search needs
 
--- src/main.rt:184:5
 say-requires : tie.Need-say-requires
 say-requires c κs = search needs
 
--- src/main.rt:185:9
 slice-aggregate-say-2 : tie.Need-slice-aggregate-say-2
 slice-aggregate-say-2 c = search needs
 
--- src/main.rt:185:19
 sub-say : tie.Need-sub-say
-sub-say c = search needs
+sub-say c = omega (arith, few _ _ _ (c .before .before .before .before .before .before .before .before .before .before .mark-words .ensures))
 
--- src/main.rt:185:5
 say-requires-2 : tie.Need-say-requires-2
 say-requires-2 c κs = search needs
 
--- src/main.rt:176:1
 same-length : tie.Need-same-length
 same-length c = search needs
 
--- src/main.rt:176:1
 same-length-2 : tie.Need-same-length-2
 same-length-2 c = search needs
 
--- src/main.rt:176:1
 returns : tie.Need-returns
 returns c = search needs
 
