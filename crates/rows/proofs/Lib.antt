@@ -9,7 +9,9 @@ pub mod Moves
 pub mod Regions
 pub mod Shifts
 pub mod Marks
-pub mod Tallies
+pub mod Runs
+pub mod Closing
+pub mod Marking
 pub mod Keys
 pub mod Takes
 pub mod Sound
