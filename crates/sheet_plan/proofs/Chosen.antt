@@ -37,10 +37,6 @@ chosen-at p n c k e h t =
     ∙ ap (λ (b : Bool). at (select p (upTo c) ++ cond b (c ∷ select p (from (suc c) (n - c - 1))) (select p (from (suc c) (n - c - 1)))) k) t
     ∙ getD-at (select p (upTo c)) c (select p (from (suc c) (n - c - 1))) 0 k (length-upTo p c ∙ sym e)
 
--- past the last there is 0
-pub chosen-past : (p : ℕ → Bool) (n k : ℕ) → counted p n ≤ k → at (select p (upTo n)) k ≡ 0
-chosen-past p n k h = List·getD-eq-default (select p (upTo n)) 0 (omega (arith, length-upTo p n))
-
 pub select-fails : {A : Type 0} (p : A → Bool) (xs : List A) → ((x : A) → Mem x xs → p x ≡ false) → select p xs ≡ []
 select-fails p [] h = refl
 select-fails p (x ∷ xs) h = ap (λ (b : Bool). cond b (x ∷ select p xs) (select p xs)) (h x (inl refl)) ∙ select-fails p xs (λ y m. h y (inr m))

@@ -1,4 +1,5 @@
 pub mod Chosen
+pub mod Laying
 pub mod Shown
 pub mod Sizes
 pub mod Steps

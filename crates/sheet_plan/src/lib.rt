@@ -2,10 +2,9 @@
 mod marks;
 mod outward;
 
+use marks::lay_rows;
 pub use marks::mark_of;
-use marks::marked_lists;
 use marks::marks_before;
-use marks::places_of;
 use outward::order_of;
 use sheet::COLUMNS;
 use sheet::PARTS;
@@ -87,9 +86,9 @@ fn shows_marks(sheet: &[u64]) -> [u64; PLACES]
 }
 
 // How many columns the rows of a part have: none for an unkept table, the listed columns for the list.
-fn columns_in(sheet: &[u64], kept: [u64; TABLES], shows: [u64; PLACES], part: usize) -> usize
-    requires { ⌜ GoodSheet (now sheet) × ((kept ≡ keptOf (sheetOf (now sheet)))
-        × ((shows ≡ showsOf (sheetOf (now sheet))) × (part ≤ tableCount (now sheet)))) ⌝ }
+fn columns_in(sheet: &[u64], kept: &[u64; TABLES], shows: &[u64; PLACES], part: usize) -> usize
+    requires { ⌜ GoodSheet (now sheet) × ((now kept ≡ keptOf (sheetOf (now sheet)))
+        × ((now shows ≡ showsOf (sheetOf (now sheet))) × (part ≤ tableCount (now sheet)))) ⌝ }
     ensures { λ r. ⌜ r ≡ columns (sheetOf (now (sheet .entry))) part ⌝ }
 {
     if sheet::tables(sheet) <= part {
@@ -101,8 +100,8 @@ fn columns_in(sheet: &[u64], kept: [u64; TABLES], shows: [u64; PLACES], part: us
     marks_before(shows, part, COLUMNS)
 }
 
-fn columns_of(sheet: &[u64], kept: [u64; TABLES], shows: [u64; PLACES]) -> [usize; PARTS]
-    requires { ⌜ GoodSheet (now sheet) × ((kept ≡ keptOf (sheetOf (now sheet))) × (shows ≡ showsOf (sheetOf (now sheet)))) ⌝ }
+fn columns_of(sheet: &[u64], kept: &[u64; TABLES], shows: &[u64; PLACES]) -> [usize; PARTS]
+    requires { ⌜ GoodSheet (now sheet) × ((now kept ≡ keptOf (sheetOf (now sheet))) × (now shows ≡ showsOf (sheetOf (now sheet)))) ⌝ }
     ensures { λ r. ⌜ r ≡ columnsOf (sheetOf (now (sheet .entry))) ⌝ }
 {
     let m = sheet::tables(sheet) + 1;
@@ -130,17 +129,17 @@ fn rooms_of(sheet: &[u64]) -> [usize; PARTS]
 }
 
 // How many words a part has room for.
-fn size_of(sheet: &[u64], rooms: [usize; PARTS], columns: [usize; PARTS], part: usize) -> usize
-    requires { ⌜ GoodSheet (now sheet) × ((rooms ≡ roomsOf (sheetOf (now sheet)))
-        × ((columns ≡ columnsOf (sheetOf (now sheet))) × (part ≤ tableCount (now sheet)))) ⌝ }
+fn size_of(sheet: &[u64], rooms: &[usize; PARTS], columns: &[usize; PARTS], part: usize) -> usize
+    requires { ⌜ GoodSheet (now sheet) × ((now rooms ≡ roomsOf (sheetOf (now sheet)))
+        × ((now columns ≡ columnsOf (sheetOf (now sheet))) × (part ≤ tableCount (now sheet)))) ⌝ }
     ensures { λ r. ⌜ (r ≡ size (sheetOf (now (sheet .entry))) part) × (r ≤ 65536) ⌝ }
 {
     rooms[part] * columns[part]
 }
 
 // Where each part begins: behind the nine counts and the parts before it. Behind the list stands the store's end.
-fn starts_of(sheet: &[u64], rooms: [usize; PARTS], columns: [usize; PARTS]) -> [usize; PARTS + 1]
-    requires { ⌜ GoodSheet (now sheet) × ((rooms ≡ roomsOf (sheetOf (now sheet))) × (columns ≡ columnsOf (sheetOf (now sheet)))) ⌝ }
+fn starts_of(sheet: &[u64], rooms: &[usize; PARTS], columns: &[usize; PARTS]) -> [usize; PARTS + 1]
+    requires { ⌜ GoodSheet (now sheet) × ((now rooms ≡ roomsOf (sheetOf (now sheet))) × (now columns ≡ columnsOf (sheetOf (now sheet)))) ⌝ }
     ensures { λ r. ⌜ r ≡ startsOf (sheetOf (now (sheet .entry))) ⌝ }
 {
     let m = sheet::tables(sheet) + 1;
@@ -165,13 +164,14 @@ fn plan_for(sheet: &[u64]) -> Plan
     let root = derive::root_of(sheet);
     let kept = kept_marks(sheet);
     let shows = shows_marks(sheet);
-    let shown = marked_lists(shows);
-    let columns = columns_of(sheet, kept, shows);
+    let mut shown = [0usize; PLACES];
+    let mut places = [0usize; PLACES];
+    lay_rows(&shows, tables, &mut shown, &mut places);
+    let columns = columns_of(sheet, &kept, &shows);
     let rooms = rooms_of(sheet);
-    let starts = starts_of(sheet, rooms, columns);
+    let starts = starts_of(sheet, &rooms, &columns);
     let store = starts[tables + 1];
     let order = order_of(sheet, root);
-    let places = places_of(shows);
     Plan {
         tables: tables,
         root: root,
