@@ -12,12 +12,12 @@ use sheet::PLACES;
 use sheet::TABLES;
 use sheet::Verdict;
 ghost use mathlib.Core.Path.{_≡_};
-ghost use Prim.Native.Nat.{ℕ, _+_, _*_, _≤_, _<_};
+ghost use Prim.Native.Nat.{_+_, _*_, _≤_, _<_};
 ghost use Rattle.meaning.specs.Sheet.{sheetOf, tableCount};
-ghost use Rattle.meaning.specs.Plan.{columns, size, storeLength};
+ghost use Rattle.meaning.specs.Plan.{columns, size};
 ghost use Rattle.sheet.specs.Rules.{Counts};
 ghost use Rattle.sheet.specs.Tree.{GoodSheet};
-ghost use Rattle.sheet_plan.specs.Plans.{keptOf, showsAt, showsOf, shownOf, columnsOf, roomsOf, startsOf, planFor, emptyPlan, checkedOf};
+ghost use Rattle.sheet_plan.specs.Plans.{keptOf, showsAt, showsOf, columnsOf, roomsOf, startsOf, planFor, emptyPlan, checkedOf};
 
 // Part t is table t's, part n (tables) the list's. Column sets have eight places for each table, from 8t on.
 pub struct Plan {
