@@ -130,7 +130,8 @@ module _ (ws : Words) (g : GoodSheet ws) (t i : ℕ) (h : t < tableCount ws) (e 
   pub kept-child : i < edgeCount ws → true ≡ keptNo ws t
   unfolding keptNo
   kept-child l =
-      sym (T→≡ (kept (sheetOf ws) t) (kept-above (sheetOf ws) (good-sheet ws (g .not-refused)) t (omega (arith, n-is ws)) (eqb-false _ _ (root-no ws t i e g l))))
+      let good = good-sheet ws (g .not-refused) in
+      sym (T→≡ (kept (sheetOf ws) t) (kept-above (sheetOf ws) good t (omega (arith, n-is ws)) (eqb-false _ _ (root-no ws t i e g l))))
 
   pub kept-root : edgeCount ws ≤ i → some (keepsNo ws t) (edgeCount ws) ≡ keptNo ws t
   unfolding keptNo keepsNo

@@ -119,16 +119,16 @@ module _ (ws : Words) (u i : ℕ) (e : i ≡ first (goesNo ws u) (edgeCount ws))
               go (inr m) = m
 
 -- a column is listed exactly if some listing names it: the first that does is found among all
-module _ (ws : Words) (t c l p : ℕ) (q : p ≡ listedCount ws) (e : l ≡ first (listingNames ws t c) p) where
-  listed-is : listedNo ws t c ≡ some (listingNames ws t c) p
-  unfolding listedNo listingNames
-  listed-is = ap (any (names t c)) (listed-are ws) ∙ any-up (names t c) (listingNo ws) (listedCount ws) ∙ ap (some (listingNames ws t c)) (sym q)
+pub listed-is : (ws : Words) (t c : ℕ) → listedNo ws t c ≡ some (listingNames ws t c) (listedCount ws)
+unfolding listedNo listingNames
+listed-is ws t c = ap (any (names t c)) (listed-are ws) ∙ any-up (names t c) (listingNo ws) (listedCount ws)
 
+module _ (ws : Words) (t c l p : ℕ) (q : p ≡ listedCount ws) (e : l ≡ first (listingNames ws t c) p) where
   pub listed-yes : l < p → true ≡ listedNo ws t c
-  listed-yes h = sym (listed-is ∙ found _ p l e h)
+  listed-yes h = sym (listed-is ws t c ∙ ap (some (listingNames ws t c)) (sym q) ∙ found _ p l e h)
 
   pub listed-no : p ≤ l → false ≡ listedNo ws t c
-  listed-no h = sym (listed-is ∙ not-found _ p l e h)
+  listed-no h = sym (listed-is ws t c ∙ ap (some (listingNames ws t c)) (sym q) ∙ not-found _ p l e h)
 
 -- the edge into a table, and whether it is the root
 module _ (ws : Words) (t i : ℕ) (e : i ≡ first (goesNo ws t) (edgeCount ws)) where

@@ -1,4 +1,4 @@
-// What is derived of a good sheet (document 01): the root, Dep, Dep+ and Need, which tables are kept, which columns are shown.
+// What is derived of a good sheet (document 01): the root, Dep, Dep+ and Need, which tables are kept, which columns are child columns.
 ghost use mathlib.Core.Path.{_≡_};
 ghost use mathlib.Core.Bool.{not, _&&_};
 ghost use lib.Dec.{eqb, ltb};
@@ -8,7 +8,7 @@ ghost use Rattle.meaning.specs.Sheet.{sheetOf, tableCount, edgeCount};
 ghost use Rattle.meaning.specs.Plan.{root};
 ghost use Rattle.sheet.specs.Rules.{Counts};
 ghost use Rattle.sheet.specs.Tree.{Joined, GoodSheet};
-ghost use Rattle.derive.specs.Derived.{depNo, listedNo, needNo, keepsNo, keptNo, leavesBy, shownNo};
+ghost use Rattle.derive.specs.Derived.{depNo, listedNo, needNo, keepsNo, keptNo, leavesBy};
 
 // The table with no edge into it.
 pub fn root_of(sheet: &[u64]) -> usize
@@ -156,18 +156,4 @@ pub fn is_child_column(sheet: &[u64], t: usize, c: usize) -> bool
         }
     }
     false
-}
-
-// Whether t's side table shows column c.
-pub fn is_shown(sheet: &[u64], t: usize, c: usize) -> bool
-    requires { ⌜ Counts (now sheet) ⌝ }
-    ensures { λ b. ⌜ b ≡ shownNo (now (sheet .entry)) t c ⌝ }
-{
-    if c == 0 {
-        return true;
-    }
-    if is_child_column(sheet, t, c) {
-        return true;
-    }
-    is_listed(sheet, t, c)
 }

@@ -1,17 +1,16 @@
 -- The ways through the functions that fill the arrays, said of words and numbers.
 -- Assumes nothing.
-use Prim.Native.Nat.{ℕ, _+_, _*_, _/_, _%_, _≤_}
+use Prim.Native.Nat.{ℕ, _+_, _*_, _≤_}
 use mathlib.Core.Path.{_≡_, sym, ap, _∙_}
-use mathlib.Core.Bool.{Bool, true, false}
+use mathlib.Core.Bool.{true, false}
 use mathlib.Core.List.{List}
 use native.Mathlib.Omega.{arith}
 use lib.ListN.{getD, set, replicate}
 use borrow.Author.Tests.{eq-eqb, ne-eqb}
 use Rattle.lists.specs.Lists.{Words}
-use Rattle.lists.specs.Totals.{one}
 use Rattle.lists.specs.Loops.{filled}
 use Rattle.lists.proofs.Loops.{filled-more, filled-end}
-use Rattle.meaning.specs.Sheet.{sheetOf, hasColumn, tableCount}
+use Rattle.meaning.specs.Sheet.{sheetOf, tableCount}
 use Rattle.meaning.specs.Plan.{start, storeLength}
 use Rattle.meaning.specs.Plan as Meant
 use Rattle.sheet.specs.Rules.{Rules}
@@ -19,10 +18,9 @@ use Rattle.sheet.specs.Verdicts.{verdictOf}
 use Rattle.sheet.specs.declared.Verdict.{Verdict}
 use Rattle.sheet.specs.declared.Verdict.the-variants.{Good, Refused}
 use Rattle.sheet.proofs.Words.{n-is}
-use Rattle.derive.specs.Derived.{shownNo}
 use Rattle.sheet_plan.specs.Marks.{hasMark, listsOf, placesOf}
 use Rattle.sheet_plan.specs.Orders.{orderOf}
-use Rattle.sheet_plan.specs.Plans.{keptOf, showsAt, showsOf, columnsOf, roomsOf, startsOf, planFor, emptyPlan, checkedOf}
+use Rattle.sheet_plan.specs.Plans.{keptOf, showsOf, columnsOf, roomsOf, startsOf, planFor, emptyPlan, checkedOf}
 use Rattle.sheet_plan.specs.declared.Plan.{Plan}
 use Rattle.sheet_plan.specs.declared.Checked.{Checked}
 use Rattle.sheet_plan.proofs.Shown.{lists-shown}
@@ -46,15 +44,6 @@ starts-filled ws k m end r e h l a b =
     rw n
     (filled-more (start (sheetOf ws)) m end (replicate 10 0) r (a ∙ ap (λ (j : ℕ). filled (start (sheetOf ws)) j (replicate 10 0)) q)
     (b ∙ ap (start (sheetOf ws)) q))
-
-pub shows-none : (ws : Words) (i : ℕ) → hasColumn (sheetOf ws) (i / 8) (i % 8) ≡ false → 0 ≡ showsAt (sheetOf ws) i
-unfolding showsAt
-shows-none ws i h = rw h
-
-pub shows-mark : (ws : Words) (i v : ℕ) (b : Bool) → hasColumn (sheetOf ws) (i / 8) (i % 8) ≡ true → b ≡ shownNo ws (i / 8) (i % 8) → v ≡ one b
-    → v ≡ showsAt (sheetOf ws) i
-unfolding showsAt shownNo
-shows-mark ws i v b h e m = rw h (m ∙ ap one e)
 
 module _ (marks : List ℕ) (t : ℕ) where
   pub marked-yes : (c : ℕ) → getD marks (8 * t + c) 0 ≡ 1 → hasMark marks t c ≡ true

@@ -13,11 +13,14 @@ use sheet::TABLES;
 use sheet::Verdict;
 ghost use mathlib.Core.Path.{_≡_};
 ghost use Prim.Native.Nat.{_+_, _*_, _≤_, _<_};
-ghost use Rattle.meaning.specs.Sheet.{sheetOf, tableCount};
+ghost use lib.ListN.{set};
+ghost use Rattle.meaning.specs.Limits.{mostTables, mostColumns};
+ghost use Rattle.meaning.specs.Sheet.{sheetOf, tableCount, edgeCount, listedCount};
 ghost use Rattle.meaning.specs.Plan.{columns, size};
-ghost use Rattle.sheet.specs.Rules.{Counts};
+ghost use Rattle.sheet.specs.Rules.{Counts, Rules};
 ghost use Rattle.sheet.specs.Tree.{GoodSheet};
-ghost use Rattle.sheet_plan.specs.Plans.{keptOf, showsAt, showsOf, columnsOf, roomsOf, startsOf, planFor, emptyPlan, checkedOf};
+ghost use Rattle.sheet_plan.specs.Marked.{markedBy, keyPlace, edgePlace, listingPlace};
+ghost use Rattle.sheet_plan.specs.Plans.{keptOf, showsOf, columnsOf, roomsOf, startsOf, planFor, emptyPlan, checkedOf};
 
 // Part t is table t's, part n (tables) the list's. Column sets have eight places for each table, from 8t on.
 pub struct Plan {
@@ -61,27 +64,64 @@ fn kept_marks(sheet: &[u64]) -> [u64; TABLES]
     m
 }
 
-// Whether table i / 8 has a column i % 8 and its side table shows it.
-fn shows_at(sheet: &[u64], i: usize) -> u64
-    requires { ⌜ GoodSheet (now sheet) ⌝ }
-    ensures { λ r. ⌜ r ≡ showsAt (sheetOf (now (sheet .entry))) i ⌝ }
+// Marks column c of table t.
+fn mark(m: &mut [u64; PLACES], t: usize, c: usize)
+    requires { ⌜ (t < mostTables) × (c < mostColumns) ⌝ }
+    ensures { λ _. ⌜ now (m .exit) ≡ set (now (m .entry)) (mostColumns * t + c) 1 ⌝ }
 {
-    if !sheet::has_column(sheet, i / COLUMNS, i % COLUMNS) {
-        return 0;
-    }
-    mark_of(derive::is_shown(sheet, i / COLUMNS, i % COLUMNS))
+    m[COLUMNS * t + c] = 1;
 }
 
+// Marks the key of each table.
+fn mark_keys(sheet: &[u64], m: &mut [u64; PLACES])
+    requires { ⌜ Counts (now sheet) ⌝ }
+    ensures { λ _. ⌜ now (m .exit) ≡ markedBy keyPlace (tableCount (now (sheet .entry))) (now (m .entry)) ⌝ }
+{
+    let n = sheet::tables(sheet);
+    let mut t = 0;
+    while t < n {
+        mark(m, t, 0);
+        t += 1;
+    }
+}
+
+// Marks the child column of each edge.
+fn mark_child_columns(sheet: &[u64], m: &mut [u64; PLACES])
+    requires { ⌜ Rules (now sheet) ⌝ }
+    ensures { λ _. ⌜ now (m .exit) ≡ markedBy (edgePlace (now (sheet .entry))) (edgeCount (now (sheet .entry))) (now (m .entry)) ⌝ }
+{
+    let e = sheet::edges(sheet);
+    let mut k = 0;
+    while k < e {
+        let edge = sheet::edge_no(sheet, k);
+        mark(m, edge.child, edge.column);
+        k += 1;
+    }
+}
+
+// Marks each listed column.
+fn mark_listed(sheet: &[u64], m: &mut [u64; PLACES])
+    requires { ⌜ Rules (now sheet) ⌝ }
+    ensures { λ _. ⌜ now (m .exit) ≡ markedBy (listingPlace (now (sheet .entry))) (listedCount (now (sheet .entry))) (now (m .entry)) ⌝ }
+{
+    let p = sheet::listed(sheet);
+    let mut k = 0;
+    while k < p {
+        let listing = sheet::listing_no(sheet, k);
+        mark(m, listing.table, listing.column);
+        k += 1;
+    }
+}
+
+// The columns that the side tables show, each marked at 8t + c: the keys, the child columns and the listed columns.
 fn shows_marks(sheet: &[u64]) -> [u64; PLACES]
     requires { ⌜ GoodSheet (now sheet) ⌝ }
     ensures { λ m. ⌜ m ≡ showsOf (sheetOf (now (sheet .entry))) ⌝ }
 {
     let mut m = [0u64; PLACES];
-    let mut i = 0;
-    while i < PLACES {
-        m[i] = shows_at(sheet, i);
-        i += 1;
-    }
+    mark_keys(sheet, &mut m);
+    mark_child_columns(sheet, &mut m);
+    mark_listed(sheet, &mut m);
     m
 }
 
