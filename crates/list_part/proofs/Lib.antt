@@ -1,9 +1,9 @@
 pub mod Words
 pub mod Altering
 pub mod Given
-pub mod OneByOne
 pub mod Rewrites
 pub mod Altered
 pub mod Lists
+pub mod OneByOne
 pub mod Firsts
 pub mod Putting

@@ -7,7 +7,7 @@ use native.Mathlib.Nat.{mul-le-mul-right}
 use native.Mathlib.Omega.{arith}
 use lib.Dec.{T, eqb}
 use lib.ListN.{length, take, drop, set, length-append, take-append-drop}
-use lib.Seq.{take-at, drop-drop}
+use lib.Seq.{take-at, drop-drop, set-getD}
 use borrow.Rule.Slice.PartMut.{putMid}
 use Rattle.lists.specs.Lists.{Words, all}
 use Rattle.lists.specs.Parts.{part, splice}
@@ -16,12 +16,12 @@ use Rattle.rows.specs.Rows.{Row, Rows, Wide, cut, rising, sorted}
 use Rattle.rows.specs.Words.{written}
 use Rattle.rows.specs.Regions.{laid}
 use Rattle.rows.proofs.Cut.{row-fits, wide-first, wide-rest, wide-cons, cut-length, cut-zero, take-cut, wide-cut}
-use Rattle.rows.proofs.Regions.{region-words, holds}
+use Rattle.rows.proofs.Regions.{region-words, holds, region-holds}
 use Rattle.rows.proofs.Sorted.{rising-none, rising-sorted}
 use Rattle.places.proofs.Laid.{laid-long, laid-more, laid-zeros, laid-cut}
 use Rattle.places.proofs.Splices.{length-splice, part-splice, take-splice}
 use Rattle.store.specs.declared.Part.{Part}
-use Rattle.store.proofs.Parts.{part-long, wrote}
+use Rattle.store.proofs.Parts.{part-long, wrote, wrote-anew}
 use Rattle.store.specs.Parts.{sizeOf, stopOf, wordsIn, countIn, rowsIn, Within, Kept, withRows, Wrote}
 use Rattle.list_part.specs.Loose.{rowPut, Loose, looseRows, Standing, Behind}
 
@@ -73,6 +73,14 @@ module _ (p : Part) (old : Words) (win : Within p old) where
     unfolding withRows
     wrote-over rows exit w =
         record { words = w .words ∙ ap (λ (y : Words). set y (p .slot) (length rows)) (anew-twice (laid (sizeOf p) rows)); long = w .long; held = w .held }
+
+-- a part whose rows stay
+pub wrote-same : (p : Part) (old : Words) → Kept p old → Wrote p (rowsIn p old) old old
+unfolding rowsIn
+wrote-same p old k =
+    subst (Wrote p (rowsIn p old) old) (ap (λ (y : Words). set y (p .slot) (countIn p old)) (part-same p old) ∙ set-getD old (p .slot) 0)
+    (wrote-anew p old (k .within) (rowsIn p old) (countIn p old) (wordsIn p old)
+    (region-holds (p .columns) (countIn p old) (wordsIn p old) (k .region)) (part-long p old (k .within)))
 
 -- A part whose rows come one after the other, in any order
 pub behind-start : (p : Part) (old : Words) → Kept p old → countIn p old ≤ p .room → Behind p old (rowsIn p old) old

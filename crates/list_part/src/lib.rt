@@ -5,6 +5,6 @@ mod rewriting;
 mod ways;
 
 pub use columns::shows_row;
-pub use rewriting::give_rows;
+pub use replacing::replace_rows;
 pub use rewriting::settle_rows;
 pub use ways::put_ways;
