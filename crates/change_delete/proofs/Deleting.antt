@@ -33,7 +33,8 @@ use Rattle.change_delete.specs.Deletes.{Deletes}
 
 -- The rows that are taken: there are few, and their numbers rise
 module _ {ws store : Words} {plan : Plan} (rd : Ready ws store plan) {t : ℕ} {r : Row} (lent : Lent ws t r)
-    (list : Part) (lies : Lies (sheetOf ws) (sheetOf ws .n) list) (numbers : Words) (a : Taken) (m : WaysTaken ws store t r numbers a) (k : ℕ) (e : a ≡ All k) where
+    (list : Part) (lies : Lies (sheetOf ws) (sheetOf ws .n) list)
+    (numbers : Words) (a : Taken) (m : WaysTaken ws store t r numbers a) (k : ℕ) (e : a ≡ All k) where
   so : WaysTaken ws store t r numbers (All k)
   so = subst (WaysTaken ws store t r numbers) e m
 

@@ -136,7 +136,8 @@ returns-4 c =
     let pre = start at-a .pre in
     let lies = ready-list (pre .0) _ (listing at-a .part-of .ensures) in
     deletes-done (pre .0) (pre .1) _ (at-is-qualified .is-qualified .ensures) _ (at-old-row .old-row .ensures) (at-if1 .if1 .left) (at-if2 .if2 .left) _ _
-    (marking at-a .mark-ways .ensures) _ lies _ (at-a .a .given .1) _ (c .before .before .before .before .before .before .take-marked .ensures) _ (c .before .before .take-side .ensures)
+    (marking at-a .mark-ways .ensures) _ lies _ (at-a .a .given .1) _
+    (c .before .before .before .before .before .before .take-marked .ensures) _ (c .before .before .take-side .ensures)
 
 pub delete-spec : {M : Type 1} → statement M
 delete-spec =
