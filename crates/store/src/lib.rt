@@ -227,7 +227,8 @@ pub fn mark_row(store: &[u64], p: Part, r: &[u64], numbers: &mut [u16], many: us
     requires { ⌜ Kept p (now store) ⌝ }
     requires { ⌜ length (now r) ≡ p .columns ⌝ }
     requires { ⌜ Run (countIn p (now store)) (now numbers) many ⌝ }
-    ensures { λ b. ⌜ Marking (now (r .entry)) (rowsIn p (now (store .entry))) (take many (now (numbers .entry))) (take (many + one b) (now (numbers .exit))) b ⌝ }
+    ensures { λ b. ⌜ Marking (now (r .entry)) (rowsIn p (now (store .entry)))
+        (take many (now (numbers .entry))) (take (many + one b) (now (numbers .exit))) b ⌝ }
 {
     let slot = p.slot;
     let from = p.start;
