@@ -4,6 +4,8 @@ mod rewriting;
 mod ways;
 
 pub use columns::shows_row;
+pub use rewriting::clear_rows;
 pub use rewriting::give_rows;
 pub use rewriting::settle_rows;
-pub use ways::put_ways;
+pub use ways::Step;
+pub use ways::put_way_from;
