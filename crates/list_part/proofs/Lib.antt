@@ -2,6 +2,7 @@ pub mod Words
 pub mod Altering
 pub mod Given
 pub mod Rewrites
+pub mod Clearing
 pub mod Altered
 pub mod Lists
 pub mod OneByOne

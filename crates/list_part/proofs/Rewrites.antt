@@ -42,7 +42,7 @@ splice-same s a b h =
     ap (λ (l : Words). take a s ++ (take (b - a) (drop a s) ++ l)) (ap (λ (k : ℕ). drop k s) (sym e) ∙ sym (drop-drop (b - a) a s))
     ∙ ap (λ (l : Words). take a s ++ l) (take-append-drop (b - a) (drop a s)) ∙ take-append-drop a s
 
-part-same : (p : Part) (old : Words) → splice old (p .start) (stopOf p) (wordsIn p old) ≡ old
+pub part-same : (p : Part) (old : Words) → splice old (p .start) (stopOf p) (wordsIn p old) ≡ old
 unfolding wordsIn
 part-same p old = splice-same old (p .start) (stopOf p) (omega arith)
 
@@ -94,25 +94,26 @@ behind-start p old k h =
     }
 
 module _ (p : Part) (old : Words) (win : Within p old) (rows : Rows) (ws : Words) (be : Behind p old rows ws) where
-  long : length (laid (sizeOf p) rows) ≡ sizeOf p
-  long = laid-long (p .columns) (sizeOf p) rows (be .wide) (mul-le-mul-right (p .columns) (be .fits))
+  pub behind-long : length (laid (sizeOf p) rows) ≡ sizeOf p
+  behind-long = laid-long (p .columns) (sizeOf p) rows (be .wide) (mul-le-mul-right (p .columns) (be .fits))
 
   pub behind-within : Within p ws
-  behind-within = subst (Within p) (sym (be .words)) (within-anew p old win (laid (sizeOf p) rows) long)
+  behind-within = subst (Within p) (sym (be .words)) (within-anew p old win (laid (sizeOf p) rows) behind-long)
 
-  words-are : wordsIn p ws ≡ laid (sizeOf p) rows
-  words-are = ap (wordsIn p) (be .words) ∙ words-anew p old win (laid (sizeOf p) rows) long
+  pub behind-words : wordsIn p ws ≡ laid (sizeOf p) rows
+  behind-words = ap (wordsIn p) (be .words) ∙ words-anew p old win (laid (sizeOf p) rows) behind-long
 
   rows-are : looseRows p (length rows) ws ≡ rows
   unfolding looseRows
-  rows-are = ap (cut (p .columns) (length rows)) words-are ∙ laid-cut (p .columns) (sizeOf p) rows (be .wide)
+  rows-are = ap (cut (p .columns) (length rows)) behind-words ∙ laid-cut (p .columns) (sizeOf p) rows (be .wide)
 
   loose : Loose p (length rows) ws
   loose =
       record {
         within = behind-within;
         fits = be .fits;
-        zeros = subst (λ (l : Words). T (all (eqb 0) (drop (length rows * p .columns) l))) (sym words-are) (laid-zeros (p .columns) (sizeOf p) rows (be .wide));
+        zeros = subst (λ (l : Words). T (all (eqb 0) (drop (length rows * p .columns) l))) (sym behind-words)
+            (laid-zeros (p .columns) (sizeOf p) rows (be .wide));
       }
 
   -- they stand there, and what is put in their place then stands in the old store
@@ -120,7 +121,7 @@ module _ (p : Part) (old : Words) (win : Within p old) (rows : Rows) (ws : Words
   behind-self =
       let x = laid (sizeOf p) rows in
       record {
-        words = be .words ∙ sym (anew-twice p old win x long x) ∙ ap (λ (l : Words). splice l (p .start) (stopOf p) x) (sym (be .words));
+        words = be .words ∙ sym (anew-twice p old win x behind-long x) ∙ ap (λ (l : Words). splice l (p .start) (stopOf p) x) (sym (be .words));
         wide = be .wide;
         fits = be .fits;
       }
@@ -129,7 +130,7 @@ module _ (p : Part) (old : Words) (win : Within p old) (rows : Rows) (ws : Words
   behind-over rows′ ws′ over =
       let x = laid (sizeOf p) rows′ in
       record {
-        words = over .words ∙ ap (λ (l : Words). splice l (p .start) (stopOf p) x) (be .words) ∙ anew-twice p old win (laid (sizeOf p) rows) long x;
+        words = over .words ∙ ap (λ (l : Words). splice l (p .start) (stopOf p) x) (be .words) ∙ anew-twice p old win (laid (sizeOf p) rows) behind-long x;
         wide = over .wide;
         fits = over .fits;
       }
@@ -144,7 +145,7 @@ module _ (p : Part) (old : Words) (win : Within p old) (rows : Rows) (ws : Words
 
     pub behind-settled : (exit : Words) → Wrote p (sorted (looseRows p k ws)) ws exit → Wrote p (sorted rows) old exit
     behind-settled exit w =
-        wrote-over p old win (laid (sizeOf p) rows) long (sorted rows) exit
+        wrote-over p old win (laid (sizeOf p) rows) behind-long (sorted rows) exit
         (subst (λ (l : Words). Wrote p (sorted rows) l exit) (be .words)
         (subst (λ (l : Rows). Wrote p (sorted l) ws exit) behind-rows w))
 
@@ -169,8 +170,8 @@ module _ (p : Part) (old : Words) (win : Within p old) (rows : Rows) (ws : Words
     pub behind-on : (exit : Words) → exit ≡ rowPut p ws (length rows) r → Behind p old (rows ++ (r ∷ [])) exit
     behind-on exit e =
         record {
-          words = e ∙ ap₂ (λ (s x : Words). splice s (p .start) (stopOf p) (written x (length rows * p .columns) r (p .columns))) (be .words) words-are
-              ∙ anew-twice p old win (laid (sizeOf p) rows) long (written (laid (sizeOf p) rows) (length rows * p .columns) r (p .columns))
+          words = e ∙ ap₂ (λ (s x : Words). splice s (p .start) (stopOf p) (written x (length rows * p .columns) r (p .columns))) (be .words) behind-words
+              ∙ anew-twice p old win (laid (sizeOf p) rows) behind-long (written (laid (sizeOf p) rows) (length rows * p .columns) r (p .columns))
               ∙ ap (splice old (p .start) (stopOf p)) at-end;
           wide = wide-append (p .columns) rows r (be .wide) wide;
           fits = omega (arith, length-append rows (r ∷ []));

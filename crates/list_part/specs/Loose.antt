@@ -1,11 +1,11 @@
 -- A part with a row or some columns written, one whose rows are not in order yet, and a store in which such rows stand in a part
 -- while every other word is as before.
 -- Assumes nothing.
-use Prim.Native.Nat.{ℕ, _+_, _*_, _≤_}
+use Prim.Native.Nat.{ℕ, _+_, _-_, _*_, _≤_}
 use mathlib.Core.Path.{_≡_}
 use mathlib.Core.List.{_++_}
 use lib.Dec.{T, eqb}
-use lib.ListN.{length, drop}
+use lib.ListN.{length, take, drop, replicate}
 use Rattle.lists.specs.Lists.{Words, all}
 use Rattle.lists.specs.Parts.{splice}
 use Rattle.rows.specs.Rows.{Row, Rows, Wide, cut, rising}
@@ -19,6 +19,10 @@ use Rattle.list_part.specs.Gives.{given}
 -- the store with r over row k of the part
 abbrev pub rowPut : Part → Words → ℕ → Row → Words
 rowPut p ws k r = splice ws (p .start) (stopOf p) (written (wordsIn p ws) (k * p .columns) r (p .columns))
+
+-- the store with zeros in the part from row k on
+abbrev pub rowsCleared : Part → Words → ℕ → Words
+rowsCleared p ws k = splice ws (p .start) (stopOf p) (take (k * p .columns) (wordsIn p ws) ++ replicate (sizeOf p - k * p .columns) 0)
 
 -- the store with r's values in table t's columns of the part's marked rows
 abbrev pub rowsGiven : Words → ℕ → Row → Words → Part → Words → Words

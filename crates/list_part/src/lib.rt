@@ -6,5 +6,7 @@ mod ways;
 
 pub use columns::shows_row;
 pub use replacing::replace_rows;
+pub use rewriting::clear_rows;
 pub use rewriting::settle_rows;
-pub use ways::put_ways;
+pub use ways::Step;
+pub use ways::put_way_from;

@@ -1,5 +1,6 @@
-// The list's part of a store while its rows change: rows put behind its rows, one table's columns given, and the order restored.
+// The list's part of a store while its rows change: rows put behind its rows or cleared, one table's columns given, and the order restored.
 use crate::columns::give_marked;
+use sheet::LISTED;
 use store::Part;
 ghost use mathlib.Core.Path.{_≡_};
 ghost use Prim.Native.Nat.{ℕ, _<_, _≤_};
@@ -11,7 +12,7 @@ ghost use Rattle.meaning.specs.Sheet.{listedCount};
 ghost use Rattle.sheet.specs.Rules.{Rules};
 ghost use Rattle.store.specs.Parts.{countIn, Within, Kept, Wrote};
 ghost use Rattle.list_part.specs.Gives.{Fits};
-ghost use Rattle.list_part.specs.Loose.{rowPut, rowsGiven, Loose, looseRows, Standing};
+ghost use Rattle.list_part.specs.Loose.{rowPut, rowsCleared, rowsGiven, Loose, looseRows, Standing};
 
 // r becomes row k of the part; its count stays.
 pub fn put_behind(store: &mut [u64], p: Part, k: usize, r: &[u64])
@@ -25,6 +26,22 @@ pub fn put_behind(store: &mut [u64], p: Part, k: usize, r: &[u64])
     let to = from + p.room * w;
     let place = k * w;
     rows::write_over(&mut store[from..to], place, r);
+}
+
+// The rows of the part from row `first` on are zero again; its count stays.
+pub fn clear_rows(store: &mut [u64], p: Part, first: usize)
+    requires { ⌜ Within p (now store) ⌝ }
+    requires { ⌜ p .columns ≤ mostListed ⌝ }
+    requires { ⌜ first ≤ p .room ⌝ }
+    ensures { λ _. ⌜ now (store .exit) ≡ rowsCleared p (now (store .entry)) first ⌝ }
+{
+    let w = p.columns;
+    let zero = [0u64; LISTED];
+    let mut k = p.room;
+    while first < k {
+        k -= 1;
+        put_behind(store, p, k, &zero[..w]);
+    }
 }
 
 // The part's rows at these numbers get r's values in table t's columns, where they stand.
