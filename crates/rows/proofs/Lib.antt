@@ -3,6 +3,7 @@ pub mod Sorted
 pub mod Cut
 pub mod Columns
 pub mod Pairs
+pub mod Steps
 pub mod Search
 pub mod Ranks
 pub mod Moves
