@@ -10,7 +10,7 @@ use Rattle.lists.specs.Lists.{Words}
 use Rattle.lists.proofs.Truth.{isT, T→≡}
 use Rattle.lists.proofs.Totals.{same-length}
 use Rattle.rows.specs.Rows.{Row, putRows, takeRows, hasRows}
-use Rattle.rows.specs.Marks.{unmarked}
+use Rattle.rows.specs.Marks.{spared, isMarked}
 use Rattle.meaning.specs.Answers.{contradiction, refused}
 use Rattle.rows.proofs.Takes.{has-same, takes-same}
 use Rattle.meaning.specs.Sheet.{Sheet}
@@ -51,11 +51,11 @@ module _ (s : Sheet) (g : Good s) (ws : Words) (ok : T (sound s ws)) (t : ℕ) (
       delete-contradicts-list e = applied-contradicts s g ws ok (changeOf 2 t r o) l (agree ∙ e)
 
       -- its shown columns leave the side table, and the rows of its ways the list
-      pub delete-done : (marks : Words) → Marked (walkRows s (modelOf s ws) t r) (rowsAt s ws (s .n)) marks
+      pub delete-done : (numbers : Words) → Marked (walkRows s (modelOf s ws) t r) (rowsAt s ws (s .n)) numbers
           → applied s ws (changeOf 2 t r o)
-          ≡ done s ws t (length (walkRows s (modelOf s ws) t r)) 0 (takeRows (sideRow s t r) (rowsAt s ws t)) (unmarked marks (rowsAt s ws (s .n)))
+          ≡ done s ws t (length (walkRows s (modelOf s ws) t r)) 0 (takeRows (sideRow s t r) (rowsAt s ws t)) (spared (isMarked numbers) (rowsAt s ws (s .n)))
       unfolding deleteEffect putRows modelOf
-      delete-done marks h =
+      delete-done numbers h =
           let same = walk-rows s g ws ok t l r (isT q) in
           let out = rowsThrough s (modelOf s ws) t r in
           applied-done s g ws ok (changeOf 2 t r o) l (agree ∙ T→≡ _ (h .there)) (deleteEffect s (modelOf s ws) t r) effect-is

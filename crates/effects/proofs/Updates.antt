@@ -11,7 +11,7 @@ use Rattle.lists.specs.Totals.{Same}
 use Rattle.lists.proofs.Truth.{isT, T→≡}
 use Rattle.lists.proofs.Totals.{same-length}
 use Rattle.rows.specs.Rows.{Row, Rows, putRows, takeRows, sorted, hasRows}
-use Rattle.rows.specs.Marks.{unmarked}
+use Rattle.rows.specs.Marks.{spared, altered, isMarked}
 use Rattle.meaning.specs.Answers.{contradiction, refused}
 use Rattle.rows.proofs.Takes.{has-same, takes-same, length-puts, length-takes}
 use Rattle.meaning.specs.Sheet.{Sheet}
@@ -22,8 +22,7 @@ use Rattle.laws.specs.Sheets.{Good}
 use Rattle.laws.specs.Updates.{Tied}
 use Rattle.laws.proofs.Stores.{model-side}
 use Rattle.laws.proofs.Changes.{sideAfter}
-use Rattle.walks.specs.Marks.{altered, isMarked}
-use Rattle.walks.proofs.Marks.{puts-words}
+use Rattle.walks.proofs.Marks.{puts-left}
 use Rattle.walks.proofs.Updates.{update-rows}
 use Rattle.effects.specs.Applied.{applied, done, nothing, walkRows, replacedRows, Marked}
 use Rattle.effects.proofs.Rooms.{listAfter, side-room, list-room}
@@ -101,26 +100,26 @@ module _ (s : Sheet) (g : Good s) (ws : Words) (ok : T (sound s ws)) (t : ℕ) (
               length-map (x .listOut) (withColumns (s .listed) t r′),
             )
 
-        list-is : (marks : Words) → unmarked marks (rowsAt s ws (s .n)) ≡ takeRows (replacedRows s (modelOf s ws) t r) (rowsAt s ws (s .n))
+        list-is : (numbers : Words) → spared (isMarked numbers) (rowsAt s ws (s .n)) ≡ takeRows (replacedRows s (modelOf s ws) t r) (rowsAt s ws (s .n))
             → listAfter (modelOf s ws) (updateEffect s (modelOf s ws) t r r′)
-            ≡ sorted (altered (isMarked marks) (withColumns (s .listed) t r′) (rowsAt s ws (s .n)))
+            ≡ sorted (altered (isMarked numbers) (withColumns (s .listed) t r′) (rowsAt s ws (s .n)))
         unfolding modelOf
-        list-is marks left =
+        list-is numbers left =
             let x = updateEffect s (modelOf s ws) t r r′ in
             ap (λ (i : Rows). putRows i (takeRows (x .listOut) (rowsAt s ws (s .n)))) (update-rows s (modelOf s ws) t l r r′ ti)
-            ∙ puts-words marks (withColumns (s .listed) t r′) (x .listOut) (rowsAt s ws (s .n)) (list-rising s g ws ok) has
+            ∙ puts-left (isMarked numbers) (withColumns (s .listed) t r′) (x .listOut) (rowsAt s ws (s .n)) (list-rising s g ws ok) has
             (left ∙ sym (takes-same (x .listOut) (replacedRows s (modelOf s ws) t r) (rowsAt s ws (s .n)) (list-rising s g ws ok) out))
 
       -- its side row is replaced, and each of these list rows gets the new row's columns; so no room is wanted
-      pub update-done : Tied s t r r′ → (marks : Words) → Marked (replacedRows s (modelOf s ws) t r) (rowsAt s ws (s .n)) marks
+      pub update-done : Tied s t r r′ → (numbers : Words) → Marked (replacedRows s (modelOf s ws) t r) (rowsAt s ws (s .n)) numbers
           → applied s ws (changeOf 3 t r r′)
           ≡ done s ws t (length (replacedRows s (modelOf s ws) t r)) (length (replacedRows s (modelOf s ws) t r))
           (putRows (sideRow s t r′) (takeRows (sideRow s t r) (rowsAt s ws t)))
-          (sorted (altered (isMarked marks) (withColumns (s .listed) t r′) (rowsAt s ws (s .n))))
-      update-done ti marks h =
+          (sorted (altered (isMarked numbers) (withColumns (s .listed) t r′) (rowsAt s ws (s .n))))
+      update-done ti numbers h =
           let x = updateEffect s (modelOf s ws) t r r′ in
           let taken = same-length (x .listOut) (replacedRows s (modelOf s ws) t r) out in
           applied-done s g ws ok (changeOf 3 t r r′) l (agree ∙ T→≡ _ (h .there)) x effect-is
           (omega (arith, side-many, side-room s g ws ok t l)) (omega (arith, list-many ti (h .there), list-room s g ws ok))
           ∙ done-same s ws t taken (ap length (update-rows s (modelOf s ws) t l r r′ ti) ∙ length-map (x .listOut) (withColumns (s .listed) t r′) ∙ taken)
-          side-is (list-is ti (h .there) marks (h .left))
+          side-is (list-is ti (h .there) numbers (h .left))

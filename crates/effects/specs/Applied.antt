@@ -5,10 +5,10 @@ use mathlib.Core.Path.{_≡_}
 use mathlib.Core.Bool.{cond}
 use mathlib.Core.List.{[], map}
 use lib.Dec.{T}
-use lib.ListN.{length, getD, set}
+use lib.ListN.{length, getD, set, take}
 use Rattle.lists.specs.Lists.{Words}
 use Rattle.rows.specs.Rows.{Row, Rows, takeRows, hasRows}
-use Rattle.rows.specs.Marks.{unmarked, Tallied}
+use Rattle.rows.specs.Marks.{spared, isMarked, Numbers}
 use Rattle.meaning.specs.Answers.{Outcome, refused, contradiction, noRoom}
 use Rattle.meaning.specs.Sheet.{Sheet}
 use Rattle.meaning.specs.Plan.{root}
@@ -52,13 +52,13 @@ firstRows s base i = map (listRow s) (firstWalks s base i)
 unfoldable pub replacedRows : Sheet → Model → ℕ → Row → Rows
 replacedRows s m t r = cond (canTake s t) (walkRows s m t r) (rowsFound s m t r)
 
--- the marks on a list are exactly of these rows: each stands there as often, and what is unmarked is what is left without them
-pub record Marked (out rows : Rows) (marks : Words) : Type 0 where
+-- the numbers are of exactly these rows: each stands there as often, and what is spared is what is left without them
+pub record Marked (out rows : Rows) (numbers : Words) : Type 0 where
   pub there : T (hasRows out rows)
-  pub left : unmarked marks rows ≡ takeRows out rows
+  pub left : spared (isMarked numbers) rows ≡ takeRows out rows
+  pub run : Numbers (length rows) numbers
 
--- so far: k rows are marked, one by one, and they are these
-pub record MarkedSo (out rows : Rows) (marks : Words) (k : ℕ) : Type 0 where
+-- so far: the first k of the numbers are of these rows, which are so many
+pub record MarkedSo (out rows : Rows) (numbers : Words) (k : ℕ) : Type 0 where
   pub many : k ≡ length out
-  pub is : Marked out rows marks
-  pub tallied : Tallied rows marks
+  pub is : Marked out rows (take k numbers)

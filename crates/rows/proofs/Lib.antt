@@ -8,6 +8,7 @@ pub mod Ranks
 pub mod Moves
 pub mod Regions
 pub mod Marks
+pub mod Tallies
 pub mod Keys
 pub mod Takes
 pub mod Sound

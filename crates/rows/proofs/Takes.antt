@@ -1,4 +1,4 @@
--- Many rows taken out or put in: how often each row is left, so that their order does not matter; and rows marked one by one.
+-- Many rows taken out or put in: how often each row is left, so that their order does not matter.
 -- Assumes nothing.
 use Prim.Native.Nat.{ℕ, _+_, _-_, _≤_}
 use mathlib.Core.Path.{_≡_, refl, sym, ap, ap₂, _∙_, subst}
@@ -8,13 +8,11 @@ use native.Mathlib.Omega.{arith}
 use lib.Dec.{T}
 use lib.ListN.{length}
 use borrow.Author.Tests.{lt-ltb}
-use Rattle.lists.specs.Lists.{Words, all, select}
 use Rattle.lists.specs.Totals.{total, one, Same}
-use Rattle.lists.proofs.Truth.{isT, same-test, and-false, all-cons, all-first, all-rest, and-both}
+use Rattle.lists.proofs.Truth.{isT, same-test, and-both}
 use Rattle.lists.proofs.Totals.{total-length}
 use Rattle.rows.specs.Rows.{Row, Rows, sameRow, rising, putRows, hasRow, hasRows, takeRow, takeRows}
 use Rattle.rows.specs.Ranks.{times}
-use Rattle.rows.specs.Marks.{unmarked, Tallied, Marking}
 use Rattle.rows.proofs.Ordered.{same→≡, same-refl}
 use Rattle.rows.proofs.Sorted.{rising-takes, total-puts, same-times, same-takes}
 use Rattle.rows.proofs.Ranks.{has-times}
@@ -99,34 +97,3 @@ length-puts xs rows = sym (total-length (putRows xs rows)) ∙ total-puts (λ x.
 
 pub length-takes : (xs rows : Rows) → T (hasRows xs rows) → length xs + length (takeRows xs rows) ≡ length rows
 length-takes xs rows h = ap₂ _+_ (sym (total-length xs)) (sym (total-length (takeRows xs rows))) ∙ sym (same-takes xs rows h (λ x. 1)) ∙ total-length rows
-
--- Rows taken by a test: those that fail it stay
-all-select : (q p : Row → Bool) (rows : Rows) → T (all q rows) → T (all q (select p rows))
-all-select q p [] h = h
-all-select q p (r ∷ rows) h = go (p r) (all-select q p rows (all-rest q r rows h))
-  where
-    go : (b : Bool) → T (all q (select p rows)) → T (all q (cond b (r ∷ select p rows) (select p rows)))
-    go true ih = all-cons q r (select p rows) (all-first q r rows h) ih
-    go false ih = ih
-
--- Rows marked one by one: those done leave, each as often as it was marked
-pub record Taken (done rows : Rows) (marks : Words) : Type 0 where
-  pub stay : unmarked marks rows ≡ takeRows done rows
-  pub there : T (hasRows done rows)
-  pub tallied : Tallied rows marks
-
-pub taken-more : (done : Rows) (r : Row) (rows : Rows) (old new : Words) → Taken done rows old → Marking r rows old new true → Taken (done ++ (r ∷ [])) rows new
-taken-more done r rows old new t m =
-    let left : true ≡ hasRow r (takeRows done rows) = m .left ∙ ap (hasRow r) (t .stay) in
-    record {
-      stay = m .stay ∙ ap (takeRow r) (t .stay) ∙ sym (takes-snoc done r rows);
-      there = subst T (sym (has-snoc done r rows)) (and-both (hasRows done rows) (hasRow r (takeRows done rows)) (t .there) (isT (sym left)));
-      tallied = m .tallied;
-    }
-
-pub taken-fails : (done : Rows) (r : Row) (rest rows : Rows) (old new : Words) → Taken done rows old → Marking r rows old new false
-    → hasRows (done ++ (r ∷ rest)) rows ≡ false
-unfolding hasRows
-taken-fails done r rest rows old new t m =
-    let left : false ≡ hasRow r (takeRows done rows) = m .left ∙ ap (hasRow r) (t .stay) in
-    has-append done (r ∷ rest) rows ∙ rw (← left) (and-false (hasRows done rows))

@@ -1,33 +1,38 @@
--- Rows marked to leave: a row leaves if its mark is not 0.
+-- Rows marked by their places, to be taken or altered: the numbers of the marked rows, as a rising run.
 -- Assumes nothing.
-use Prim.Native.Nat.{ℕ, _+_, _<_, _≤_}
+use Prim.Native.Nat.{ℕ, suc, _<_}
 use mathlib.Core.Path.{_≡_}
-use mathlib.Core.Bool.{Bool, cond}
+use mathlib.Core.Bool.{Bool, cond, not}
 use mathlib.Core.List.{[], _∷_}
-use lib.Dec.{eqb}
-use lib.ListN.{length, drop}
-use Rattle.lists.specs.Lists.{Words, at}
+use lib.ListN.{length}
+use Rattle.lists.specs.Lists.{Words, at, member}
 use Rattle.rows.specs.Rows.{Row, Rows, hasRow, takeRow}
-use Rattle.rows.specs.Ranks.{rank, times}
 
--- the rows that stay, row i by mark i
-unfoldable pub unmarked : Words → Rows → Rows
-unmarked marks [] = []
-unmarked marks (r ∷ rows) = cond (eqb (at marks 0) 0) (r ∷ unmarked (drop 1 marks) rows) (unmarked (drop 1 marks) rows)
+-- the rows whose places are marked
+unfoldable pub marked : (ℕ → Bool) → Rows → Rows
+marked mark [] = []
+marked mark (r ∷ rows) = cond (mark 0) (r ∷ marked (λ i. mark (suc i)) rows) (marked (λ i. mark (suc i)) rows)
 
--- Where rows are marked one by one: of the rows that equal r the first k are marked, and the first one's mark is k
-pub record Tally (r : Row) (rows : Rows) (marks : Words) : Type 0 where
-  pub within : at marks (rank r rows) ≤ times r rows
-  pub marked : (j : ℕ) → j < at marks (rank r rows) → at marks (rank r rows + j) ≡ 0 → ⊥
-  pub free : (j : ℕ) → at marks (rank r rows) ≤ j → j < times r rows → at marks (rank r rows + j) ≡ 0
+-- the rows whose places are not
+unfoldable pub spared : (ℕ → Bool) → Rows → Rows
+spared mark rows = marked (λ i. not (mark i)) rows
 
-pub record Tallied (rows : Rows) (marks : Words) : Type 0 where
-  pub enough : length rows ≤ length marks
-  pub few : length rows < 65536
-  pub each : (r : Row) → 0 < times r rows → Tally r rows marks
+-- all rows, those whose places are marked altered by f
+unfoldable pub altered : (ℕ → Bool) → (Row → Row) → Rows → Rows
+altered mark f [] = []
+altered mark f (r ∷ rows) = cond (mark 0) (f r) r ∷ altered (λ i. mark (suc i)) f rows
+
+-- the places whose numbers stand in the run
+unfoldable pub isMarked : Words → ℕ → Bool
+isMarked numbers i = member i numbers
+
+-- numbers of n rows: each is above the one before, and all are below n
+pub record Numbers (n : ℕ) (numbers : Words) : Type 0 where
+  pub rise : (i j : ℕ) → i < j → j < length numbers → at numbers i < at numbers j
+  pub below : (i : ℕ) → i < length numbers → at numbers i < n
 
 -- What marking one more row that equals r does: it is among the rows that stay or it is not, and then it leaves them
 pub record Marking (r : Row) (rows : Rows) (old new : Words) (done : Bool) : Type 0 where
-  pub left : done ≡ hasRow r (unmarked old rows)
-  pub stay : unmarked new rows ≡ takeRow r (unmarked old rows)
-  pub tallied : Tallied rows new
+  pub left : done ≡ hasRow r (spared (isMarked old) rows)
+  pub stay : spared (isMarked new) rows ≡ takeRow r (spared (isMarked old) rows)
+  pub run : Numbers (length rows) new

@@ -12,7 +12,7 @@ ghost use Prim.Native.Nat.{_*_, _/_, _≤_};
 ghost use lib.ListN.{length, replicate};
 ghost use Rattle.rows.specs.Rows.{cut};
 ghost use Rattle.rows.specs.Regions.{Region};
-ghost use Rattle.rows.specs.Marks.{Tallied};
+ghost use Rattle.rows.specs.Tallies.{Tallied};
 ghost use Rattle.key_order.specs.Orders.{InKeyOrder};
 
 // A barcode, the one that differs from it in the upper 32 bits alone, that difference, and the greatest word.

@@ -10,7 +10,7 @@ ghost use lib.Dec.{T};
 ghost use lib.ListN.{length, set};
 ghost use Rattle.rows.specs.Rows.{rising, putRow, takeRow};
 ghost use Rattle.rows.specs.Ranks.{foundRow, foundKey};
-ghost use Rattle.rows.specs.Marks.{unmarked, Tallied, Marking};
+ghost use Rattle.rows.specs.Tallies.{unmarked, Tallied, Marking};
 ghost use Rattle.meaning.specs.Limits.{mostTables};
 ghost use Rattle.store.specs.Tests.{absentZero};
 ghost use Rattle.store.specs.Parts.{countIn, rowsIn, soundIn, Within, Kept, Wrote};

@@ -5,8 +5,8 @@ use mathlib.Core.Path.{_≡_, ap}
 use mathlib.Core.List.{List}
 use lib.ListN.{length, replicate}
 use Rattle.rows.specs.Rows.{cut}
-use Rattle.rows.specs.Marks.{Tallied}
-use Rattle.rows.proofs.Marks.{tallied-none}
+use Rattle.rows.specs.Tallies.{Tallied}
+use Rattle.rows.proofs.Tallies.{tallied-none}
 use borrow.Author.Needs.{needs}
 use native.Mathlib.Omega.{arith}
 use Rattle.rows_run.proofs.take_equals.Statement.{statement}
