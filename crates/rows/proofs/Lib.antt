@@ -8,7 +8,9 @@ pub mod Ranks
 pub mod Moves
 pub mod Regions
 pub mod Marks
-pub mod Tallies
+pub mod Runs
+pub mod Closing
+pub mod Marking
 pub mod Keys
 pub mod Takes
 pub mod Sound

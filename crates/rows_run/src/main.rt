@@ -12,7 +12,7 @@ ghost use Prim.Native.Nat.{_*_, _/_, _≤_};
 ghost use lib.ListN.{length, replicate};
 ghost use Rattle.rows.specs.Rows.{cut};
 ghost use Rattle.rows.specs.Regions.{Region};
-ghost use Rattle.rows.specs.Tallies.{Tallied};
+ghost use Rattle.rows.specs.Marks.{Run};
 ghost use Rattle.key_order.specs.Orders.{InKeyOrder};
 
 // A barcode, the one that differs from it in the upper 32 bits alone, that difference, and the greatest word.
@@ -146,46 +146,52 @@ fn put_equals(s: &mut [u64])
     rows::put(s, 1, 4, &[0]);
 }
 
-// Marks a row that equals x.
-fn mark_word(s: &[u64], count: usize, x: u64, marks: &mut [u16])
+// Marks a row that equals x, and returns how many are marked.
+fn mark_word(s: &[u64], count: usize, x: u64, numbers: &mut [u16], many: usize) -> usize
     requires { ⌜ Region 1 count (now s) ⌝ }
-    requires { ⌜ Tallied (cut 1 count (now s)) (now marks) ⌝ }
-    ensures { λ _. ⌜ Tallied (cut 1 count (now (s .entry))) (now (marks .exit)) ⌝ }
+    requires { ⌜ Run count (now numbers) many ⌝ }
+    ensures { λ k. ⌜ Run count (now (numbers .exit)) k ⌝ }
 {
-    say(b"marked", bit(rows::mark(s, 1, count, &[x], marks)));
+    let more = rows::mark(s, 1, count, &[x], numbers, many);
+    say(b"marked", bit(more));
+    if more {
+        return many + 1;
+    }
+    many
 }
 
 // Two rows that equal 5 are left to be marked, and none that equals 7.
-fn mark_words(s: &[u64], count: usize, marks: &mut [u16])
+fn mark_words(s: &[u64], count: usize, numbers: &mut [u16]) -> usize
     requires { ⌜ Region 1 count (now s) ⌝ }
-    requires { ⌜ Tallied (cut 1 count (now s)) (now marks) ⌝ }
+    requires { ⌜ Run count (now numbers) 0 ⌝ }
+    ensures { λ k. ⌜ Run count (now (numbers .exit)) k ⌝ }
 {
-    mark_word(s, count, 5, marks);
-    mark_word(s, count, 5, marks);
-    mark_word(s, count, 5, marks);
-    mark_word(s, count, 7, marks);
+    let first = mark_word(s, count, 5, numbers, 0);
+    let second = mark_word(s, count, 5, numbers, first);
+    let third = mark_word(s, count, 5, numbers, second);
+    mark_word(s, count, 7, numbers, third)
 }
 
 // One of the equal rows leaves, then two more in one pass.
-fn take_equals(s: &mut [u64], marks: &mut [u16])
+fn take_equals(s: &mut [u64], numbers: &mut [u16])
     requires { ⌜ length (now s) ≡ 6 ⌝ }
-    requires { ⌜ now marks ≡ replicate 6 0 ⌝ }
+    requires { ⌜ length (now numbers) ≡ 6 ⌝ }
     requires { ⌜ Region 1 5 (now s) ⌝ }
 {
     let left = rows::take(s, 1, 5, &[5]);
-    mark_words(s, left, marks);
-    let rest = rows::take_marked(s, 1, left, marks);
+    let many = mark_words(s, left, numbers);
+    rows::take_marked(s, 1, left, &numbers[..many]);
     say(b"left", left as u64);
-    say(b"left", rest as u64);
+    say(b"left", (left - many) as u64);
 }
 
 fn equals() {
     let mut s: [u64; 6] = [0; 6];
-    let mut marks: [u16; 6] = [0; 6];
+    let mut numbers: [u16; 6] = [0; 6];
     put_equals(&mut s);
     show(&s);
     say(b"equal", rows::count_equal(&s, 1, 5, &[5]) as u64);
-    take_equals(&mut s, &mut marks);
+    take_equals(&mut s, &mut numbers);
     show(&s);
 }
 

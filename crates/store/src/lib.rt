@@ -5,12 +5,13 @@ use sheet::Verdict;
 use sheet_plan::Plan;
 ghost use mathlib.Core.Path.{_≡_};
 ghost use mathlib.Core.Bool.{true};
-ghost use Prim.Native.Nat.{ℕ, _<_, _≤_};
+ghost use Prim.Native.Nat.{ℕ, _+_, _<_, _≤_};
 ghost use lib.Dec.{T};
-ghost use lib.ListN.{length, set};
+ghost use lib.ListN.{length, set, take};
+ghost use Rattle.lists.specs.Totals.{one};
 ghost use Rattle.rows.specs.Rows.{rising, putRow, takeRow};
 ghost use Rattle.rows.specs.Ranks.{foundRow, foundKey};
-ghost use Rattle.rows.specs.Tallies.{unmarked, Tallied, Marking};
+ghost use Rattle.rows.specs.Marks.{spared, isMarked, Numbers, Run, Marking};
 ghost use Rattle.meaning.specs.Limits.{mostTables};
 ghost use Rattle.store.specs.Tests.{absentZero};
 ghost use Rattle.store.specs.Parts.{countIn, rowsIn, soundIn, Within, Kept, Wrote};
@@ -196,18 +197,18 @@ pub fn find_row(store: &[u64], p: Part, r: &[u64]) -> Found
     rows::find(&store[from..to], p.columns, count, r)
 }
 
-// Marks one more of the part's rows that equal r, if one is left without a mark.
-pub fn mark_row(store: &[u64], p: Part, r: &[u64], marks: &mut [u16]) -> bool
+// Marks one more of the part's rows that equal r, if one is left without a mark: its number comes into the run of the first `many` numbers.
+pub fn mark_row(store: &[u64], p: Part, r: &[u64], numbers: &mut [u16], many: usize) -> bool
     requires { ⌜ Kept p (now store) ⌝ }
     requires { ⌜ length (now r) ≡ p .columns ⌝ }
-    requires { ⌜ Tallied (rowsIn p (now store)) (now marks) ⌝ }
-    ensures { λ b. ⌜ Marking (now (r .entry)) (rowsIn p (now (store .entry))) (now (marks .entry)) (now (marks .exit)) b ⌝ }
+    requires { ⌜ Run (countIn p (now store)) (now numbers) many ⌝ }
+    ensures { λ b. ⌜ Marking (now (r .entry)) (rowsIn p (now (store .entry))) (take many (now (numbers .entry))) (take (many + one b) (now (numbers .exit))) b ⌝ }
 {
     let slot = p.slot;
     let from = p.start;
     let to = from + p.room * p.columns;
     let count = store[slot] as usize;
-    rows::mark(&store[from..to], p.columns, count, r, marks)
+    rows::mark(&store[from..to], p.columns, count, r, numbers, many)
 }
 
 // r comes into the part at its place; the count is one more.
@@ -257,17 +258,17 @@ pub fn replace_row(store: &mut [u64], p: Part, at: usize, r: &[u64])
     rows::replace(&mut store[from..to], w, count, at, r);
 }
 
-// The marked rows go out of the part, in one pass.
-pub fn take_marked(store: &mut [u64], p: Part, marks: &[u16])
+// The rows of the run's numbers go out of the part, in one pass.
+pub fn take_marked(store: &mut [u64], p: Part, numbers: &[u16])
     requires { ⌜ Kept p (now store) ⌝ }
-    requires { ⌜ countIn p (now store) ≤ length (now marks) ⌝ }
-    ensures { λ _. ⌜ Wrote p (unmarked (now (marks .entry)) (rowsIn p (now (store .entry)))) (now (store .entry)) (now (store .exit)) ⌝ }
+    requires { ⌜ Numbers (countIn p (now store)) (now numbers) ⌝ }
+    ensures { λ _. ⌜ Wrote p (spared (isMarked (now (numbers .entry))) (rowsIn p (now (store .entry)))) (now (store .entry)) (now (store .exit)) ⌝ }
 {
     let slot = p.slot;
     let from = p.start;
     let w = p.columns;
     let to = from + p.room * w;
     let count = store[slot] as usize;
-    let left = rows::take_marked(&mut store[from..to], w, count, marks);
-    store[slot] = left as u64;
+    rows::take_marked(&mut store[from..to], w, count, numbers);
+    store[slot] = (count - numbers.len()) as u64;
 }

@@ -1,20 +1,19 @@
--- `rows_run::take_equals` has marks enough for the rows that are left.
+-- `rows_run::take_equals` has room for the numbers of the rows that are left.
 -- Assumes nothing.
-use Prim.Native.Nat.{ℕ, _≤_, _*_}
-use mathlib.Core.Path.{_≡_, ap}
+use Prim.Native.Nat.{ℕ, _≤_}
+use mathlib.Core.Path.{sym}
 use mathlib.Core.List.{List}
-use lib.ListN.{length, replicate}
-use Rattle.rows.specs.Rows.{cut}
-use Rattle.rows.specs.Tallies.{Tallied}
-use Rattle.rows.proofs.Tallies.{tallied-none}
+use lib.Seq.{length-take-le}
+use Rattle.rows.specs.Marks.{Run}
+use Rattle.rows.proofs.Runs.{numbers-few}
 use borrow.Author.Needs.{needs}
 use native.Mathlib.Omega.{arith}
 use Rattle.rows_run.proofs.take_equals.Statement.{statement}
 use Rattle.rows_run.proofs.take_equals.Tie as tie
 
--- six marks are enough
-fresh : (n : ℕ) (s marks : List ℕ) → marks ≡ replicate 6 0 → n * 1 ≤ length s → length s ≡ 6 → Tallied (cut 1 n s) marks
-fresh n s marks e h l = rw e (tallied-none 1 n s 6 (omega arith) (omega arith))
+-- no more rows are marked than there are
+few : (n k : ℕ) (numbers : List ℕ) → Run n numbers k → k ≤ n
+few n k numbers run = omega (arith, numbers-few (run .is), length-take-le k numbers (run .filled))
 
 slice-aggregate-take : tie.Need-slice-aggregate-take
 slice-aggregate-take c = search needs
@@ -23,19 +22,16 @@ take-requires : tie.Need-take-requires
 take-requires c κs = search needs
 
 mark-words-requires : tie.Need-mark-words-requires
-mark-words-requires c κs =
-    let taken = c .before .before .before .before in
-    let start = taken .before .before .before .before .before in
-    let region = taken .take .ensures .region in
-    (region, fresh _ _ _ (start .pre .1 .0) (region .fits) (omega arith))
+mark-words-requires c κs = search needs
+
+slice-reshare-prefix-take-marked : tie.Need-slice-reshare-prefix-take-marked
+slice-reshare-prefix-take-marked c = search needs
+
+slice-aggregate-take-marked : tie.Need-slice-aggregate-take-marked
+slice-aggregate-take-marked c = sym (length-take-le _ _ (c .before .before .before .before .mark-words .ensures .filled))
 
 take-marked-requires : tie.Need-take-marked-requires
-take-marked-requires c κs =
-    let marked = c .before .before .before .before in
-    let taken = marked .before .before .before .before .before in
-    let start = taken .before .before .before .before .before in
-    let region = taken .take .ensures .region in
-    (region, omega (arith, region .fits, ap length (start .pre .1 .0)))
+take-marked-requires c κs = search needs
 
 slice-aggregate-say : tie.Need-slice-aggregate-say
 slice-aggregate-say c = search needs
@@ -45,6 +41,9 @@ say-requires c κs = search needs
 
 slice-aggregate-say-2 : tie.Need-slice-aggregate-say-2
 slice-aggregate-say-2 c = search needs
+
+sub-say : tie.Need-sub-say
+sub-say c = omega (arith, few _ _ _ (c .before .before .before .before .before .before .before .before .before .before .mark-words .ensures))
 
 say-requires-2 : tie.Need-say-requires-2
 say-requires-2 c κs = search needs
@@ -65,10 +64,13 @@ take-equals-spec =
     slice-aggregate-take
     take-requires
     mark-words-requires
+    slice-reshare-prefix-take-marked
+    slice-aggregate-take-marked
     take-marked-requires
     slice-aggregate-say
     say-requires
     slice-aggregate-say-2
+    sub-say
     say-requires-2
     same-length
     same-length-2

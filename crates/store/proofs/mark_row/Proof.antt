@@ -41,7 +41,7 @@ same-length c = search needs
 
 returns : tie.Need-returns
 unfolding rowsIn wordsIn part
-returns c = c .before .before .mark .ensures
+returns c = c .before .before .mark .ensures .0
 
 pub mark-row-spec : {M : Type 1} → statement M
 mark-row-spec =

@@ -2,8 +2,10 @@
 -- Assumes nothing.
 use Rattle.store.specs.Parts.{wordsIn, rowsIn}
 use Rattle.lists.specs.Parts.{part}
+use Rattle.rows.proofs.Runs.{numbers-few}
 use Rattle.store.proofs.Parts.{wrote}
 use borrow.Author.Needs.{needs}
+use native.Mathlib.Omega.{arith}
 use Rattle.store.proofs.take_marked.Statement.{statement}
 use Rattle.store.proofs.take_marked.Tie as tie
 
@@ -37,6 +39,11 @@ take-marked-requires c κs =
     let pre = c .before .before .before .before .before .pre in
     (pre .0 .region, pre .1)
 
+sub-store : tie.Need-sub-store
+sub-store c =
+    let start = c .before .before .before .before .before .before .before .before in
+    omega (arith, numbers-few (start .pre .1))
+
 mul-store : tie.Need-mul-store
 mul-store c = search needs
 
@@ -65,6 +72,7 @@ take-marked-spec =
     part-take-marked-start
     part-take-marked-end
     take-marked-requires
+    sub-store
     mul-store
     slice-write-store
     same-length
