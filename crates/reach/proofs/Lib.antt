@@ -1,0 +1,4 @@
+pub mod Rising
+pub mod Runs
+pub mod Referring
+pub mod Reached
