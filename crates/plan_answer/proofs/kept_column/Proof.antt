@@ -20,7 +20,7 @@ element-copy-out-result c = search needs
 
 returns : tie.Need-returns
 unfolding keptColumn
-returns c = rw (eq-eqb _ _ (c .if1 .taken))
+returns c = rw (eq-eqb _ _ (c .before .if1 .taken))
 
 returns-2 : tie.Need-returns-2
 unfolding keptColumn
