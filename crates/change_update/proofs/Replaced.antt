@@ -21,7 +21,7 @@ use Rattle.effects.specs.Applied.{replacedRows}
 use Rattle.effects.proofs.Marking.{replaced-walks, shows-walks}
 use Rattle.sheet_plan.specs.declared.Plan.{Plan}
 use Rattle.list_part.specs.Gives.{gives, given}
-use Rattle.walk.specs.Climbing.{ByKey}
+use Rattle.walk.specs.Ladders.{ByKey}
 use Rattle.store.specs.declared.Part.{Part}
 use Rattle.store.specs.Parts.{stopOf, wordsIn, countIn, rowsIn, Kept, Wrote}
 use Rattle.store.proofs.Plans.{marked, unmarked}
