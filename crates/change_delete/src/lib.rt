@@ -22,7 +22,7 @@ pub fn delete(sheet: &[u64], plan: Plan, store: &mut [u64], table: usize, row: &
         return Answer::Done(0, 0);
     }
     let list = store::part_of(plan, plan.tables);
-    let mut marks = [0u16; ROOM];
+    let mut marked = [0u16; ROOM];
     let a = change_taken::mark_ways(
         sheet,
         plan.root,
@@ -34,12 +34,12 @@ pub fn delete(sheet: &[u64], plan: Plan, store: &mut [u64], table: usize, row: &
         list,
         table,
         row,
-        &mut marks,
+        &mut marked,
     );
     let Taken::All(taken) = a else {
         return Answer::Refused(CONTRADICTION);
     };
-    store::take_marked(store, list, &marks);
+    store::take_marked(store, list, &marked[..taken]);
     side_table::take_side(sheet, plan, store, table, row);
     Answer::Done(taken as u64, 0)
 }

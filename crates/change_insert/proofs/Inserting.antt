@@ -1,6 +1,6 @@
 -- An insert on a ready store, answer by answer.
 -- Assumes nothing.
-use Prim.Native.Nat.{ℕ, _+_, _-_, _<_, _≤_}
+use Prim.Native.Nat.{ℕ, _+_, _<_, _≤_}
 use mathlib.Core.Path.{_≡_, refl, sym, ap, _∙_, subst}
 use mathlib.Core.Bool.{Bool, true, false, not, _||_}
 use mathlib.Core.List.{_++_}
@@ -26,9 +26,7 @@ use Rattle.store.specs.declared.Answer.the-variants.{Done, Refused}
 use Rattle.store.specs.Parts.{rowsIn, countIn, Lies, Wrote}
 use Rattle.store.proofs.Answers.{says-refused}
 use Rattle.store.proofs.Lying.{count-is}
-use Rattle.list_part.proofs.Lists.{list-room}
 use Rattle.change_laws.specs.Ready.{Ready}
-use Rattle.change_added.specs.Adding.{Adding}
 use Rattle.side_table.specs.Sides.{hasRoom, Sided}
 use Rattle.side_table.proofs.Tests.{room-full, room-free}
 use Rattle.change_laws.proofs.Answers.{says-nothing}
@@ -89,29 +87,26 @@ module _ {ws store : Words} {plan : Plan} (rd : Ready ws store plan) {t : ℕ} {
                       (insert-no-room-side (sheetOf ws) (ready-good rd) store (rd .sound) t (ready-table rd lent) o r new fine (f .0) (f .1));
                 }
 
-            -- the list has not so much room
-            module _ (free : not c ≡ false) (list : Part) (lies : Lies (sheetOf ws) (sheetOf ws .n) list)
-                (k : ℕ) (many : k ≡ length (walkRows (sheetOf ws) (modelOf (sheetOf ws) store) t r)) where
-              -- the list's rows and room as the part has them
+            module _ (free : not c ≡ false) (list : Part) (lies : Lies (sheetOf ws) (sheetOf ws .n) list) where
+              -- the list's rows as the part has them
               listed-is : countIn list store ≡ count (sheetOf ws) store (sheetOf ws .n)
               listed-is = count-is (sheetOf ws) (sheetOf ws .n) list lies store
 
-              list-fits : countIn list store ≤ list .room
-              list-fits = list-room (sheetOf ws) (ready-good rd) store (rd .sound) list lies
-
-              pub inserts-no-room-list : list .room - countIn list store < k → Inserts ws store t r (Refused 9) store
-              inserts-no-room-list full =
+              -- the list has not so much room
+              pub inserts-no-room-list : list .room < countIn list store + length (walkRows (sheetOf ws) (modelOf (sheetOf ws) store) t r)
+                  → (exit : Words) → exit ≡ store → Inserts ws store t r (Refused 9) exit
+              inserts-no-room-list full exit same =
                   let s = sheetOf ws in
-                  let more : room s (s .n) < length (walkRows s (modelOf s store) t r) + count s store (s .n) =
-                  omega (arith, lies .room-is, listed-is, many, list-fits) in
-                  record {
+                  let more : room s (s .n) < length (walkRows s (modelOf s store) t r) + count s store (s .n) = omega (arith, lies .room-is, listed-is) in
+                  rw same (record {
                     says = λ o. says-refused (applied s store (changeOf 1 t o r)) 9 store (λ z. omega arith)
                         (insert-no-room-list s (ready-good rd) store (rd .sound) t (ready-table rd lent) o r new fine more);
-                  }
+                  })
 
               -- or all tests let it pass
-              pub insertable : k ≤ list .room - countIn list store → Insertable ws store plan t r list k
-              insertable enough =
+              pub insertable : (k : ℕ) → k ≡ length (walkRows (sheetOf ws) (modelOf (sheetOf ws) store) t r) → countIn list store + k ≤ list .room
+                  → Insertable ws store plan t r list k
+              insertable k many enough =
                   record {
                     ready = rd;
                     lent = lent;
@@ -120,13 +115,10 @@ module _ {ws store : Words} {plan : Plan} (rd : Ready ws store plan) {t : ℕ} {
                     free = isT (sym ec ∙ not-false c free);
                     lies = lies;
                     many = many;
-                    left = omega (arith, lies .room-is, listed-is, many, list-fits);
+                    left = omega (arith, lies .room-is, listed-is, many);
                   }
 
 module _ {ws store : Words} {plan : Plan} {t : ℕ} {r : Row} {list : Part} {k : ℕ} (p : Insertable ws store plan t r list k) where
-  pub adding : Adding ws store list t r
-  adding = record { sound = p .ready .sound; lies = p .lies; room = p .left }
-
   -- when the list has its rows
   module _ (mid : Words) (w : Wrote list (sorted (rowsIn list store ++ walkRows (sheetOf ws) (modelOf (sheetOf ws) store) t r)) store mid) where
     pub half-room : T (hasRoom (sheetOf ws) mid t)

@@ -1,4 +1,5 @@
 // An insert below its tests 1 to 7, on a sound store: contradiction, room, and then the list's rows and the side row.
+use change_added::Added;
 use sheet::CONTRADICTION;
 use sheet::NO_ROOM;
 use sheet_plan::Plan;
@@ -23,23 +24,7 @@ pub fn insert(sheet: &[u64], plan: Plan, store: &mut [u64], table: usize, row: &
         return Answer::Refused(NO_ROOM);
     }
     let list = store::part_of(plan, plan.tables);
-    let slot = list.slot;
-    let count = store[slot] as usize;
-    let added = change_added::count_ways(
-        sheet,
-        plan.root,
-        &plan.order,
-        &plan.starts,
-        &plan.columns,
-        &plan.places,
-        store,
-        table,
-        row,
-    );
-    if list.room - count < added {
-        return Answer::Refused(NO_ROOM);
-    }
-    change_added::add_ways(
+    let added = change_added::add_ways(
         sheet,
         plan.root,
         &plan.order,
@@ -51,6 +36,11 @@ pub fn insert(sheet: &[u64], plan: Plan, store: &mut [u64], table: usize, row: &
         table,
         row,
     );
-    side_table::put_side(sheet, plan, store, table, row);
-    Answer::Done(0, added as u64)
+    match added {
+        Added::All(k) => {
+            side_table::put_side(sheet, plan, store, table, row);
+            Answer::Done(0, k as u64)
+        }
+        Added::NoRoom => Answer::Refused(NO_ROOM),
+    }
 }

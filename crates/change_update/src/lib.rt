@@ -99,7 +99,7 @@ fn replace_rows(
     let slot = list.slot;
     let count = store[slot] as usize;
     list_part::give_rows(sheet, store, list, marks, table, row);
-    list_part::settle_rows(store, list, count, k);
+    list_part::settle_rows(store, list, 0, count);
 }
 
 // Old becomes new in its table, if it is qualified: the side row is replaced, and the list rows of the ways through it, or found by its key.

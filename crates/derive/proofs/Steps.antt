@@ -1,8 +1,8 @@
 -- The ways through the walks of Dep+ and Need, said of words and numbers.
 -- Assumes nothing.
 use Prim.Native.Nat.{ℕ, zero, suc, _+_, _-_, _<_, _≤_}
-use mathlib.Core.Path.{_≡_, refl, sym, ap, ap₂, subst, _∙_}
-use mathlib.Core.Bool.{Bool, true, false, cond, not, _&&_, _||_, and-false, Bool·not-not}
+use mathlib.Core.Path.{_≡_, refl, sym, ap, subst, _∙_}
+use mathlib.Core.Bool.{Bool, true, false, not, _&&_, _||_, and-false}
 use mathlib.Core.List.{List, [], _∷_}
 use mathlib.Core.Logic.{_⊎_, inl, inr}
 use native.Mathlib.Numerals.{sub-one}
@@ -10,22 +10,22 @@ use native.Mathlib.Omega.{arith}
 use lib.Dec.{T, eqb, ltb}
 use lib.ListN.{length}
 use borrow.Author.Tests.{eqb-true, eq-eqb, ne-eqb}
-use Rattle.lists.specs.Lists.{Words, at, Mem, all, any, select, member, upTo}
-use Rattle.lists.specs.Loops.{every, some, first}
+use Rattle.lists.specs.Lists.{Words, at, Mem, all, any, member}
+use Rattle.lists.specs.Loops.{some, first}
 use Rattle.lists.proofs.Truth.{T→≡, F→≡, same-test, select-mem, member→Mem, Mem→member, eq→eqb, eqb→≡}
 use Rattle.laws.proofs.Lists.{any-select}
 use Rattle.meaning.specs.Sheet as Meant
 use Rattle.meaning.specs.Sheet.{Sheet, sheetOf, goesInto, leaves, edgesInto, isRoot, tableCount, edgeCount, listedCount}
-use Rattle.meaning.specs.Plan.{root, edgeInto, others, isPromised, depPlus, depPlusIn, isListed, names, need, needIn, kept, isShown}
+use Rattle.meaning.specs.Plan.{root, edgeInto, others, isPromised, depPlusIn, isListed, names, isShown}
 use Rattle.sheet.specs.declared.reading.Edge.{Edge}
 use Rattle.sheet.specs.Read.{ReadsEdge}
 use Rattle.sheet.specs.Numbered.{edgeNo, listingNo}
 use Rattle.sheet.specs.Tests.{listingNames}
-use Rattle.sheet.proofs.Numbers.{member-chosen, any-up, all-upTo, any-upTo, found, not-found, first-passes}
+use Rattle.sheet.proofs.Numbers.{member-chosen, any-up, found, not-found, first-passes}
 use Rattle.sheet.proofs.Words.{n-is, edges-are, edge-there, listed-are}
 use Rattle.sheet.specs.Tree.{goesNo, Joined, GoodSheet}
 use Rattle.sheet.proofs.Into.{into-none, into-first, into-only}
-use Rattle.derive.specs.Derived.{depNo, listedNo, needNo, restsOn, neededBy, keptNo, leavesBy, shownNo}
+use Rattle.derive.specs.Derived.{depNo, listedNo, needNo, leavesBy, shownNo}
 use Rattle.derive.proofs.Paths.{LastEdge, last-edge, add-edge}
 
 -- a test that is false because it cannot be passed
@@ -119,16 +119,16 @@ module _ (ws : Words) (u i : ℕ) (e : i ≡ first (goesNo ws u) (edgeCount ws))
               go (inr m) = m
 
 -- a column is listed exactly if some listing names it: the first that does is found among all
-module _ (ws : Words) (t c l p : ℕ) (q : p ≡ listedCount ws) (e : l ≡ first (listingNames ws t c) p) where
-  listed-is : listedNo ws t c ≡ some (listingNames ws t c) p
-  unfolding listedNo listingNames
-  listed-is = ap (any (names t c)) (listed-are ws) ∙ any-up (names t c) (listingNo ws) (listedCount ws) ∙ ap (some (listingNames ws t c)) (sym q)
+pub listed-is : (ws : Words) (t c : ℕ) → listedNo ws t c ≡ some (listingNames ws t c) (listedCount ws)
+unfolding listedNo listingNames
+listed-is ws t c = ap (any (names t c)) (listed-are ws) ∙ any-up (names t c) (listingNo ws) (listedCount ws)
 
+module _ (ws : Words) (t c l p : ℕ) (q : p ≡ listedCount ws) (e : l ≡ first (listingNames ws t c) p) where
   pub listed-yes : l < p → true ≡ listedNo ws t c
-  listed-yes h = sym (listed-is ∙ found _ p l e h)
+  listed-yes h = sym (listed-is ws t c ∙ ap (some (listingNames ws t c)) (sym q) ∙ found _ p l e h)
 
   pub listed-no : p ≤ l → false ≡ listedNo ws t c
-  listed-no h = sym (listed-is ∙ not-found _ p l e h)
+  listed-no h = sym (listed-is ws t c ∙ ap (some (listingNames ws t c)) (sym q) ∙ not-found _ p l e h)
 
 -- the edge into a table, and whether it is the root
 module _ (ws : Words) (t i : ℕ) (e : i ≡ first (goesNo ws t) (edgeCount ws)) where
@@ -186,59 +186,6 @@ module _ (ws : Words) (t u : ℕ) where
             ne-eqb u (x .child) (λ k. q (sym k)),
             ← sub-one (suc left),
           ) w
-
--- tests of what is chosen
-module _ {A : Type 0} where
-  pub all-select : (p q : A → Bool) (xs : List A) → all p (select (λ x. not (q x)) xs) ≡ all (λ x. q x || p x) xs
-  all-select p q [] = refl
-  all-select p q (x ∷ xs) = go (q x) (all-select p q xs)
-    where
-      go : (b : Bool) → all p (select (λ x. not (q x)) xs) ≡ all (λ x. q x || p x) xs
-          → all p (cond (not b) (x ∷ select (λ x. not (q x)) xs) (select (λ x. not (q x)) xs)) ≡ ((b || p x) && all (λ x. q x || p x) xs)
-      go true e = e
-      go false e = ap (λ (r : Bool). p x && r) e
-
-  pub all-not : (p : A → Bool) (xs : List A) → all (λ x. not (p x)) xs ≡ not (any p xs)
-  all-not p [] = refl
-  all-not p (x ∷ xs) = go (p x) (all-not p xs)
-    where
-      go : (b : Bool) → all (λ x. not (p x)) xs ≡ not (any p xs) → (not b && all (λ x. not (p x)) xs) ≡ not (b || any p xs)
-      go true e = refl
-      go false e = e
-
--- kept, by number
-pub kept-is : (ws : Words) (t : ℕ) → keptNo ws t ≡ not (every (restsOn ws t) (tableCount ws) && not (some (neededBy ws t) (tableCount ws)))
-unfolding keptNo kept others restsOn neededBy
-kept-is ws t =
-    ap₂ (λ a b. not (a && b))
-    (all-select (λ u. member u (depPlus s t)) (λ u. eqb u t) (upTo (s .n)) ∙ all-upTo (λ u. eqb u t || member u (depPlus s t)) (s .n)
-    ∙ ap (every (λ u. eqb u t || member u (depPlus s t))) (n-is ws))
-    (all-not (λ u. member t (need s u)) (upTo (s .n)) ∙ ap not (any-upTo (λ u. member t (need s u)) (s .n) ∙ ap (some (λ u. member t (need s u))) (n-is ws)))
-  where
-    s : Sheet
-    s = sheetOf ws
-
-module _ (ws : Words) (t u : ℕ) where
-  pub rests-self : u ≡ t → restsOn ws t u ≡ true
-  unfolding restsOn
-  rests-self q = rw (eq-eqb u t q)
-
-  -- paths through as many tables as there are
-  module _ {n : ℕ} (m : n ≡ tableCount ws) where
-    pub rests-dep : (b : Bool) → (u ≡ t → ⊥) → b ≡ depNo ws n t u → restsOn ws t u ≡ b
-    unfolding restsOn depNo depPlus
-    rests-dep b q e = rw (ne-eqb u t q) (ap (λ (k : ℕ). member u (depPlusIn (sheetOf ws) k t)) (n-is ws ∙ sym m) ∙ sym e)
-
-    pub needed-is : (b : Bool) → b ≡ needNo ws n u t → neededBy ws t u ≡ b
-    unfolding neededBy needNo need
-    needed-is b e = ap (λ (k : ℕ). member t (needIn (sheetOf ws) k u)) (n-is ws ∙ sym m) ∙ sym e
-
-module _ (ws : Words) (t : ℕ) where
-  pub kept-free : every (restsOn ws t) (tableCount ws) ≡ false → true ≡ keptNo ws t
-  kept-free h = rw (kept-is ws t, h)
-
-  pub kept-needed : (b : Bool) → every (restsOn ws t) (tableCount ws) ≡ true → b ≡ some (neededBy ws t) (tableCount ws) → b ≡ keptNo ws t
-  kept-needed b h e = rw (kept-is ws t, h, ← e) (sym (Bool·not-not b))
 
 -- shown, by number
 pub shown-is : (ws : Words) (t c : ℕ) → shownNo ws t c ≡ (eqb c 0 || some (leavesBy ws t c) (edgeCount ws) || listedNo ws t c)

@@ -1,11 +1,11 @@
 -- What is derived, by number: who is in a Dep+ or a Need with so many tables left on the path, which table is kept, which column is shown.
 -- Assumes nothing.
 use Prim.Native.Nat.{ℕ}
-use mathlib.Core.Bool.{Bool, _&&_, _||_}
+use mathlib.Core.Bool.{Bool, not, _&&_, _||_}
 use lib.Dec.{eqb}
 use Rattle.lists.specs.Lists.{Words, member}
-use Rattle.meaning.specs.Sheet.{sheetOf, leaves}
-use Rattle.meaning.specs.Plan.{depPlus, depPlusIn, isListed, need, needIn, kept, isShown}
+use Rattle.meaning.specs.Sheet.{Edge, Sheet, sheetOf, leaves}
+use Rattle.meaning.specs.Plan.{isPromised, depPlusIn, isListed, needIn, kept, isShown}
 use Rattle.sheet.specs.Numbered.{edgeNo}
 
 -- u is in Dep+(t), over paths of at most k edges
@@ -20,13 +20,12 @@ listedNo ws t c = isListed (sheetOf ws) t c
 unfoldable pub needNo : Words → ℕ → ℕ → ℕ → Bool
 needNo ws k t u = member u (needIn (sheetOf ws) k t)
 
--- u is t or in Dep+(t)
-unfoldable pub restsOn : Words → ℕ → ℕ → Bool
-restsOn ws t u = eqb u t || member u (depPlus (sheetOf ws) t)
+-- an edge keeps the root t: it is not promised, or leads from t to a table whose key is not listed
+unfoldable pub keeps : Sheet → ℕ → Edge → Bool
+keeps s t e = not (isPromised e) || (leaves t e && not (isListed s (e .parent) 0))
 
--- t is in u's Need
-unfoldable pub neededBy : Words → ℕ → ℕ → Bool
-neededBy ws t u = member t (need (sheetOf ws) u)
+unfoldable pub keepsNo : Words → ℕ → ℕ → Bool
+keepsNo ws t i = keeps (sheetOf ws) t (edgeNo ws i)
 
 unfoldable pub keptNo : Words → ℕ → Bool
 keptNo ws t = kept (sheetOf ws) t

@@ -1,14 +1,14 @@
-// What is derived of a good sheet (document 01): the root, Dep, Dep+ and Need, which tables are kept, which columns are shown.
+// What is derived of a good sheet (document 01): the root, Dep, Dep+ and Need, which tables are kept, which columns are child columns.
 ghost use mathlib.Core.Path.{_≡_};
 ghost use mathlib.Core.Bool.{not, _&&_};
 ghost use lib.Dec.{eqb, ltb};
-ghost use Prim.Native.Nat.{ℕ, _<_};
-ghost use Rattle.lists.specs.Loops.{every, some};
+ghost use Prim.Native.Nat.{_<_};
+ghost use Rattle.lists.specs.Loops.{some};
 ghost use Rattle.meaning.specs.Sheet.{sheetOf, tableCount, edgeCount};
 ghost use Rattle.meaning.specs.Plan.{root};
 ghost use Rattle.sheet.specs.Rules.{Counts};
 ghost use Rattle.sheet.specs.Tree.{Joined, GoodSheet};
-ghost use Rattle.derive.specs.Derived.{depNo, listedNo, needNo, restsOn, neededBy, keptNo, leavesBy, shownNo};
+ghost use Rattle.derive.specs.Derived.{depNo, listedNo, needNo, keepsNo, keptNo, leavesBy};
 
 // The table with no edge into it.
 pub fn root_of(sheet: &[u64]) -> usize
@@ -97,50 +97,46 @@ fn is_other(n: usize, t: usize, u: usize) -> bool
     true
 }
 
-// Whether Dep+(t) is every other table.
-fn rests_on_all(sheet: &[u64], t: usize) -> bool
-    requires { ⌜ Joined (now sheet) ⌝ }
-    ensures { λ b. ⌜ b ≡ every (restsOn (now (sheet .entry)) t) (tableCount (now (sheet .entry))) ⌝ }
+// Whether edge k keeps the root t: it is not promised, or leads from t to a table whose key the list does not show, and which so needs t.
+fn keeps_root(sheet: &[u64], t: usize, k: usize) -> bool
+    requires { ⌜ Counts (now sheet) ⌝ }
+    requires { ⌜ k < edgeCount (now sheet) ⌝ }
+    ensures { λ b. ⌜ b ≡ keepsNo (now (sheet .entry)) t k ⌝ }
 {
-    let n = sheet::tables(sheet);
-    let mut u = 0;
-    while u < n {
-        let v = u;
-        u += 1;
-        if v != t {
-            if !depends(sheet, t, v, n) {
-                return false;
-            }
-        }
+    let edge = sheet::edge_no(sheet, k);
+    let promised = edge.promise == 1;
+    if !promised {
+        return true;
+    }
+    if edge.child != t {
+        return false;
+    }
+    if is_listed(sheet, edge.parent, 0) {
+        return false;
     }
     true
 }
 
-// Whether t is in some table's Need.
-fn is_needed(sheet: &[u64], t: usize) -> bool
-    requires { ⌜ GoodSheet (now sheet) ⌝ }
-    ensures { λ b. ⌜ b ≡ some (neededBy (now (sheet .entry)) t) (tableCount (now (sheet .entry))) ⌝ }
-{
-    let n = sheet::tables(sheet);
-    let mut u = 0;
-    while u < n {
-        if needs(sheet, u, t, n) {
-            return true;
-        }
-        u += 1;
-    }
-    false
-}
-
-// Whether t has a side table: it has none exactly if Dep+(t) is every other table and t is in no table's Need.
+// Whether t has a side table: it has none exactly if Dep+(t) is every other table and t is in no table's Need. Nobody's Dep+ has the root, so
+// every other table has one. The root's is every other table if each edge is promised, and a table that needs the root has on its way there
+// one that is next to it.
 pub fn is_kept(sheet: &[u64], t: usize) -> bool
     requires { ⌜ GoodSheet (now sheet) ⌝ }
+    requires { ⌜ t < tableCount (now sheet) ⌝ }
     ensures { λ b. ⌜ b ≡ keptNo (now (sheet .entry)) t ⌝ }
 {
-    if !rests_on_all(sheet, t) {
+    let e = sheet::edges(sheet);
+    if sheet::edge_into(sheet, t) < e {
         return true;
     }
-    is_needed(sheet, t)
+    let mut k = 0;
+    while k < e {
+        if keeps_root(sheet, t, k) {
+            return true;
+        }
+        k += 1;
+    }
+    false
 }
 
 // Whether c is the child column of an edge that leaves t.
@@ -160,18 +156,4 @@ pub fn is_child_column(sheet: &[u64], t: usize, c: usize) -> bool
         }
     }
     false
-}
-
-// Whether t's side table shows column c.
-pub fn is_shown(sheet: &[u64], t: usize, c: usize) -> bool
-    requires { ⌜ Counts (now sheet) ⌝ }
-    ensures { λ b. ⌜ b ≡ shownNo (now (sheet .entry)) t c ⌝ }
-{
-    if c == 0 {
-        return true;
-    }
-    if is_child_column(sheet, t, c) {
-        return true;
-    }
-    is_listed(sheet, t, c)
 }

@@ -1,7 +1,10 @@
 pub mod Words
+pub mod Altering
 pub mod Given
 pub mod Rewrites
+pub mod Clearing
 pub mod Altered
 pub mod Lists
+pub mod OneByOne
 pub mod Firsts
 pub mod Putting

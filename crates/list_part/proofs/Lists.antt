@@ -1,6 +1,6 @@
 -- The list's part: its columns are the sheet's listed ones, in a sound store it is kept, and its rows have room; and a row made in the front of a run.
 -- Assumes nothing.
-use Prim.Native.Nat.{ℕ, _≤_}
+use Prim.Native.Nat.{ℕ, _<_, _≤_}
 use mathlib.Core.Path.{_≡_, sym, ap, _∙_}
 use mathlib.Core.List.{_++_}
 use native.Mathlib.Omega.{arith}
@@ -39,6 +39,9 @@ module _ (ws : Words) (list : Part) (lies : Lies (sheetOf ws) (sheetOf ws .n) li
 
   pub columns-few : Rules ws → list .columns ≤ 16
   columns-few ru = omega (arith, list-columns, ru .counts .listed-few)
+
+  pub columns-some : Rules ws → 0 < list .columns
+  columns-some ru = omega (arith, list-columns, ru .counts .listed-some)
 
   pub row-wide : (way : Way) → length (listRow (sheetOf ws) way) ≡ list .columns
   row-wide way = row-listed ws way ∙ sym list-columns

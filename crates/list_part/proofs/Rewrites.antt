@@ -7,7 +7,7 @@ use native.Mathlib.Nat.{mul-le-mul-right}
 use native.Mathlib.Omega.{arith}
 use lib.Dec.{T, eqb}
 use lib.ListN.{length, take, drop, set, length-append, take-append-drop}
-use lib.Seq.{drop-drop}
+use lib.Seq.{take-at, drop-drop, set-getD}
 use borrow.Rule.Slice.PartMut.{putMid}
 use Rattle.lists.specs.Lists.{Words, all}
 use Rattle.lists.specs.Parts.{part, splice}
@@ -15,15 +15,15 @@ use Rattle.lists.proofs.Parts.{drop-splice}
 use Rattle.rows.specs.Rows.{Row, Rows, Wide, cut, rising, sorted}
 use Rattle.rows.specs.Words.{written}
 use Rattle.rows.specs.Regions.{laid}
-use Rattle.rows.proofs.Cut.{row-fits, wide-first, wide-rest, wide-cons, cut-length, wide-cut}
-use Rattle.rows.proofs.Regions.{region-words, holds}
-use Rattle.rows.proofs.Sorted.{rising-sorted}
+use Rattle.rows.proofs.Cut.{row-fits, wide-first, wide-rest, wide-cons, cut-length, cut-zero, take-cut, wide-cut}
+use Rattle.rows.proofs.Regions.{region-words, holds, region-holds}
+use Rattle.rows.proofs.Sorted.{rising-none, rising-sorted}
 use Rattle.places.proofs.Laid.{laid-long, laid-more, laid-zeros, laid-cut}
 use Rattle.places.proofs.Splices.{length-splice, part-splice, take-splice}
 use Rattle.store.specs.declared.Part.{Part}
-use Rattle.store.proofs.Parts.{part-long, wrote}
+use Rattle.store.proofs.Parts.{part-long, wrote, wrote-anew}
 use Rattle.store.specs.Parts.{sizeOf, stopOf, wordsIn, countIn, rowsIn, Within, Kept, withRows, Wrote}
-use Rattle.list_part.specs.Loose.{rowPut, Loose, looseRows, Behind}
+use Rattle.list_part.specs.Loose.{rowPut, Loose, looseRows, Standing, Behind}
 
 -- a part put in twice, and one put in where it was
 spliced-as : (s : Words) (a b : ℕ) (y : Words) → splice s a b y ≡ take a s ++ (y ++ drop b s)
@@ -42,7 +42,7 @@ splice-same s a b h =
     ap (λ (l : Words). take a s ++ (take (b - a) (drop a s) ++ l)) (ap (λ (k : ℕ). drop k s) (sym e) ∙ sym (drop-drop (b - a) a s))
     ∙ ap (λ (l : Words). take a s ++ l) (take-append-drop (b - a) (drop a s)) ∙ take-append-drop a s
 
-part-same : (p : Part) (old : Words) → splice old (p .start) (stopOf p) (wordsIn p old) ≡ old
+pub part-same : (p : Part) (old : Words) → splice old (p .start) (stopOf p) (wordsIn p old) ≡ old
 unfolding wordsIn
 part-same p old = splice-same old (p .start) (stopOf p) (omega arith)
 
@@ -74,6 +74,14 @@ module _ (p : Part) (old : Words) (win : Within p old) where
     wrote-over rows exit w =
         record { words = w .words ∙ ap (λ (y : Words). set y (p .slot) (length rows)) (anew-twice (laid (sizeOf p) rows)); long = w .long; held = w .held }
 
+-- a part whose rows stay
+pub wrote-same : (p : Part) (old : Words) → Kept p old → Wrote p (rowsIn p old) old old
+unfolding rowsIn
+wrote-same p old k =
+    subst (Wrote p (rowsIn p old) old) (ap (λ (y : Words). set y (p .slot) (countIn p old)) (part-same p old) ∙ set-getD old (p .slot) 0)
+    (wrote-anew p old (k .within) (rowsIn p old) (countIn p old) (wordsIn p old)
+    (region-holds (p .columns) (countIn p old) (wordsIn p old) (k .region)) (part-long p old (k .within)))
+
 -- A part whose rows come one after the other, in any order
 pub behind-start : (p : Part) (old : Words) → Kept p old → countIn p old ≤ p .room → Behind p old (rowsIn p old) old
 unfolding rowsIn
@@ -86,25 +94,26 @@ behind-start p old k h =
     }
 
 module _ (p : Part) (old : Words) (win : Within p old) (rows : Rows) (ws : Words) (be : Behind p old rows ws) where
-  long : length (laid (sizeOf p) rows) ≡ sizeOf p
-  long = laid-long (p .columns) (sizeOf p) rows (be .wide) (mul-le-mul-right (p .columns) (be .fits))
+  pub behind-long : length (laid (sizeOf p) rows) ≡ sizeOf p
+  behind-long = laid-long (p .columns) (sizeOf p) rows (be .wide) (mul-le-mul-right (p .columns) (be .fits))
 
   pub behind-within : Within p ws
-  behind-within = subst (Within p) (sym (be .words)) (within-anew p old win (laid (sizeOf p) rows) long)
+  behind-within = subst (Within p) (sym (be .words)) (within-anew p old win (laid (sizeOf p) rows) behind-long)
 
-  words-are : wordsIn p ws ≡ laid (sizeOf p) rows
-  words-are = ap (wordsIn p) (be .words) ∙ words-anew p old win (laid (sizeOf p) rows) long
+  pub behind-words : wordsIn p ws ≡ laid (sizeOf p) rows
+  behind-words = ap (wordsIn p) (be .words) ∙ words-anew p old win (laid (sizeOf p) rows) behind-long
 
   rows-are : looseRows p (length rows) ws ≡ rows
   unfolding looseRows
-  rows-are = ap (cut (p .columns) (length rows)) words-are ∙ laid-cut (p .columns) (sizeOf p) rows (be .wide)
+  rows-are = ap (cut (p .columns) (length rows)) behind-words ∙ laid-cut (p .columns) (sizeOf p) rows (be .wide)
 
   loose : Loose p (length rows) ws
   loose =
       record {
         within = behind-within;
         fits = be .fits;
-        zeros = subst (λ (l : Words). T (all (eqb 0) (drop (length rows * p .columns) l))) (sym words-are) (laid-zeros (p .columns) (sizeOf p) rows (be .wide));
+        zeros = subst (λ (l : Words). T (all (eqb 0) (drop (length rows * p .columns) l))) (sym behind-words)
+            (laid-zeros (p .columns) (sizeOf p) rows (be .wide));
       }
 
   -- they stand there, and what is put in their place then stands in the old store
@@ -112,7 +121,7 @@ module _ (p : Part) (old : Words) (win : Within p old) (rows : Rows) (ws : Words
   behind-self =
       let x = laid (sizeOf p) rows in
       record {
-        words = be .words ∙ sym (anew-twice p old win x long x) ∙ ap (λ (l : Words). splice l (p .start) (stopOf p) x) (sym (be .words));
+        words = be .words ∙ sym (anew-twice p old win x behind-long x) ∙ ap (λ (l : Words). splice l (p .start) (stopOf p) x) (sym (be .words));
         wide = be .wide;
         fits = be .fits;
       }
@@ -121,7 +130,7 @@ module _ (p : Part) (old : Words) (win : Within p old) (rows : Rows) (ws : Words
   behind-over rows′ ws′ over =
       let x = laid (sizeOf p) rows′ in
       record {
-        words = over .words ∙ ap (λ (l : Words). splice l (p .start) (stopOf p) x) (be .words) ∙ anew-twice p old win (laid (sizeOf p) rows) long x;
+        words = over .words ∙ ap (λ (l : Words). splice l (p .start) (stopOf p) x) (be .words) ∙ anew-twice p old win (laid (sizeOf p) rows) behind-long x;
         wide = over .wide;
         fits = over .fits;
       }
@@ -136,9 +145,22 @@ module _ (p : Part) (old : Words) (win : Within p old) (rows : Rows) (ws : Words
 
     pub behind-settled : (exit : Words) → Wrote p (sorted (looseRows p k ws)) ws exit → Wrote p (sorted rows) old exit
     behind-settled exit w =
-        wrote-over p old win (laid (sizeOf p) rows) long (sorted rows) exit
+        wrote-over p old win (laid (sizeOf p) rows) behind-long (sorted rows) exit
         (subst (λ (l : Words). Wrote p (sorted rows) l exit) (be .words)
         (subst (λ (l : Rows). Wrote p (sorted l) ws exit) behind-rows w))
+
+  -- those that stood there first rise still
+  pub behind-stand : (first more : Rows) (stand k : ℕ) → rows ≡ first ++ more → stand ≡ length first → k ≡ length rows → T (rising first)
+      → Standing p stand k ws
+  unfolding looseRows
+  behind-stand first more stand k e n m up =
+      let w = p .columns in
+      let l : k ≡ stand + length more = m ∙ ap length e ∙ length-append first more ∙ ap (λ (a : ℕ). a + length more) (sym n) in
+      let whole : cut w (stand + length more) (wordsIn p ws) ≡ first ++ more =
+      ap (λ (a : ℕ). cut w a (wordsIn p ws)) (sym l) ∙ ap (λ (a : ℕ). cut w a (wordsIn p ws)) m ∙ rows-are ∙ e in
+      let is : cut w stand (wordsIn p ws) ≡ first =
+      sym (take-cut w stand (length more) (wordsIn p ws)) ∙ ap (take stand) whole ∙ take-at first more stand (sym n) in
+      record { fits = omega arith; up = subst (λ (l : Rows). T (rising l)) (sym is) up }
 
   -- one row more
   module _ (r : Row) (wide : length r ≡ p .columns) (l : length rows < p .room) where
@@ -148,12 +170,17 @@ module _ (p : Part) (old : Words) (win : Within p old) (rows : Rows) (ws : Words
     pub behind-on : (exit : Words) → exit ≡ rowPut p ws (length rows) r → Behind p old (rows ++ (r ∷ [])) exit
     behind-on exit e =
         record {
-          words = e ∙ ap₂ (λ (s x : Words). splice s (p .start) (stopOf p) (written x (length rows * p .columns) r (p .columns))) (be .words) words-are
-              ∙ anew-twice p old win (laid (sizeOf p) rows) long (written (laid (sizeOf p) rows) (length rows * p .columns) r (p .columns))
+          words = e ∙ ap₂ (λ (s x : Words). splice s (p .start) (stopOf p) (written x (length rows * p .columns) r (p .columns))) (be .words) behind-words
+              ∙ anew-twice p old win (laid (sizeOf p) rows) behind-long (written (laid (sizeOf p) rows) (length rows * p .columns) r (p .columns))
               ∙ ap (splice old (p .start) (stopOf p)) at-end;
           wide = wide-append (p .columns) rows r (be .wide) wide;
           fits = omega (arith, length-append rows (r ∷ []));
         }
+
+-- no row needs to stand
+pub none-stand : (p : Part) (count : ℕ) (ws : Words) → Standing p 0 count ws
+unfolding looseRows
+none-stand p count ws = record { fits = omega arith; up = rw (cut-zero (p .columns) (wordsIn p ws)) rising-none }
 
 -- room for row k, and that many rows
 module _ (p : Part) (ws : Words) (win : Within p ws) where

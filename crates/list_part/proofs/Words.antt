@@ -63,10 +63,10 @@ module _ (ws : Words) (t : ℕ) (r row : Row) (wide : length row ≡ listedCount
       with-at (sheetOf ws .listed) t r row j d (wide ∙ sym (listed-many ws)) (omega (arith, listed-many ws)) ∙ rw e
 
   module _ (j : ℕ) (h : j < listedCount ws) (l : Listing) (reads : ReadsListing ws j l) where
-    gives-own : l .table ≡ t → at (gives ws t r row) j ≡ at r (l .column)
+    pub gives-own : l .table ≡ t → at (gives ws t r row) j ≡ at r (l .column)
     gives-own e = gives-at j h ∙ rw (← reads .table-is, ← reads .column-is, eq-eqb (l .table) t e)
 
-    gives-other : (l .table ≡ t → ⊥) → at (gives ws t r row) j ≡ at row j
+    pub gives-other : (l .table ≡ t → ⊥) → at (gives ws t r row) j ≡ at row j
     gives-other d = gives-at j h ∙ rw (← reads .table-is, ne-eqb (l .table) t d)
 
 -- it is within n words if a row of q words is, and p is q

@@ -1,3 +1,4 @@
 pub mod Gives
 pub mod Loose
 pub mod Ways
+pub mod Replaces

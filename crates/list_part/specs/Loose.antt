@@ -1,14 +1,14 @@
 -- A part with a row or some columns written, one whose rows are not in order yet, and a store in which such rows stand in a part
 -- while every other word is as before.
 -- Assumes nothing.
-use Prim.Native.Nat.{ℕ, _+_, _*_, _≤_}
+use Prim.Native.Nat.{ℕ, _+_, _-_, _*_, _≤_}
 use mathlib.Core.Path.{_≡_}
 use mathlib.Core.List.{_++_}
 use lib.Dec.{T, eqb}
-use lib.ListN.{length, drop}
+use lib.ListN.{length, take, drop, replicate}
 use Rattle.lists.specs.Lists.{Words, all}
 use Rattle.lists.specs.Parts.{splice}
-use Rattle.rows.specs.Rows.{Row, Rows, Wide, cut}
+use Rattle.rows.specs.Rows.{Row, Rows, Wide, cut, rising}
 use Rattle.rows.specs.Words.{written}
 use Rattle.rows.specs.Regions.{laid}
 use Rattle.meaning.specs.Sheet.{Sheet}
@@ -20,9 +20,13 @@ use Rattle.list_part.specs.Gives.{given}
 abbrev pub rowPut : Part → Words → ℕ → Row → Words
 rowPut p ws k r = splice ws (p .start) (stopOf p) (written (wordsIn p ws) (k * p .columns) r (p .columns))
 
+-- the store with zeros in the part from row k on
+abbrev pub rowsCleared : Part → Words → ℕ → Words
+rowsCleared p ws k = splice ws (p .start) (stopOf p) (take (k * p .columns) (wordsIn p ws) ++ replicate (sizeOf p - k * p .columns) 0)
+
 -- the store with r's values in table t's columns of the part's marked rows
 abbrev pub rowsGiven : Words → ℕ → Row → Words → Part → Words → Words
-rowsGiven sheet t r marks p ws = splice ws (p .start) (stopOf p) (given sheet t r marks (countIn p ws) (wordsIn p ws))
+rowsGiven sheet t r numbers p ws = splice ws (p .start) (stopOf p) (given sheet t r numbers (countIn p ws) (wordsIn p ws))
 
 -- count rows stand in the part, in any order, and zeros after them
 pub record Loose (p : Part) (count : ℕ) (ws : Words) : Type 0 where
@@ -32,6 +36,11 @@ pub record Loose (p : Part) (count : ℕ) (ws : Words) : Type 0 where
 
 unfoldable pub looseRows : Part → ℕ → Words → Rows
 looseRows p count ws = cut (p .columns) count (wordsIn p ws)
+
+-- of these the first `stand` rise
+pub record Standing (p : Part) (stand count : ℕ) (ws : Words) : Type 0 where
+  pub fits : stand ≤ count
+  pub up : T (rising (looseRows p stand ws))
 
 -- ws is the old store with these rows in the part, in any order, and zeros after them
 pub record Behind (p : Part) (old : Words) (rows : Rows) (ws : Words) : Type 0 where

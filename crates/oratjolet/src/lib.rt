@@ -110,16 +110,10 @@ pub extern "C" fn oratjolet_show(
 ) -> u64
     ensures { λ k. ⌜ StretchLeft (now (sheet .entry)) (now (store .entry)) number k (now (first .exit)) (now (count .exit)) ⌝ }
 {
-    let mut refusal: u64 = 0;
-    let words = store::show(sheet, store, number, &mut refusal);
-    *first = 0;
-    *count = words.len() as u64;
-    if refusal != 0 {
-        return refusal;
-    }
-    let plan = sheet_plan::check(sheet).plan;
-    *first = plan.starts[number as usize] as u64;
-    0
+    let s = store::find_stretch(sheet, store, number);
+    *first = s.first as u64;
+    *count = s.count as u64;
+    s.refusal
 }
 
 // What fill and change answer: the number, and in the lent words the rows taken from the list and added to it.

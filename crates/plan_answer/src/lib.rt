@@ -73,9 +73,9 @@ fn need_marks(sheet: &[u64]) -> [u64; PLACES]
 }
 
 // The mark of column i % 8 of table i / 8: none for an unkept table.
-fn kept_column(kept: [u64; TABLES], shows: [u64; PLACES], i: usize) -> u64
+fn kept_column(kept: &[u64; TABLES], shows: &[u64; PLACES], i: usize) -> u64
     requires { ⌜ i < mostPlaces ⌝ }
-    ensures { λ r. ⌜ r ≡ keptColumn kept shows i ⌝ }
+    ensures { λ r. ⌜ r ≡ keptColumn (now (kept .entry)) (now (shows .entry)) i ⌝ }
 {
     if kept[i / COLUMNS] == 1 {
         return shows[i];
@@ -83,8 +83,8 @@ fn kept_column(kept: [u64; TABLES], shows: [u64; PLACES], i: usize) -> u64
     0
 }
 
-fn kept_columns(kept: [u64; TABLES], shows: [u64; PLACES]) -> [u64; PLACES]
-    ensures { λ r. ⌜ r ≡ keptColumns kept shows ⌝ }
+fn kept_columns(kept: &[u64; TABLES], shows: &[u64; PLACES]) -> [u64; PLACES]
+    ensures { λ r. ⌜ r ≡ keptColumns (now (kept .entry)) (now (shows .entry)) ⌝ }
 {
     let mut r = [0u64; PLACES];
     let mut i = 0;
@@ -121,7 +121,7 @@ fn answer_for(p: Plan, dep: [u64; PLACES], need: [u64; PLACES]) -> PlanAnswer
     let shows = p.shows;
     let all_starts = p.starts;
     let all_rooms = p.rooms;
-    let columns = kept_columns(kept, shows);
+    let columns = kept_columns(&kept, &shows);
     let starts = first_parts(&all_starts, n);
     let rooms = first_parts(&all_rooms, n);
     PlanAnswer {

@@ -15,11 +15,11 @@ use Rattle.lists.proofs.Truth.{F→not, not→F, same-test, and-fst, and-snd, a
 use Rattle.lists.proofs.Truth.{eq→eqb, eqb→≡}
 use Rattle.rows.specs.Rows.{Row, Rows, key, rowOrder, thenBy, isLess, smaller, notAfter, rising, putRow, takeRow, noKeyTwice}
 use Rattle.rows.specs.Regions.{keysRise}
+use Rattle.rows.specs.Steps.{keyLess}
 use Rattle.rows.proofs.Ordered.{word-less, false-after, smaller-once}
 use Rattle.rows.proofs.Sorted.{rising-first, rising-rest, rising-cons, rising-put, rising-take, same-rising, total-put, same-take}
 use Rattle.rows.proofs.Search.{key-up}
 use Rattle.rows.proofs.Ranks.{There}
-use Rattle.rows.proofs.Pairs.{keyLess}
 
 pub key-smaller : (r s : Row) → key r < key s → smaller r s ≡ true
 unfolding smaller rowOrder thenBy isLess

@@ -3,10 +3,12 @@ pub mod Sorted
 pub mod Cut
 pub mod Columns
 pub mod Pairs
+pub mod Steps
 pub mod Search
 pub mod Ranks
 pub mod Moves
 pub mod Regions
+pub mod Shifts
 pub mod Marks
 pub mod Runs
 pub mod Closing

@@ -12,7 +12,7 @@ use lib.Seq.{take-suc, drop-cons, set-at, getD-take, getD-drop, length-take-le, 
 use lib.Seq.{take-at, drop-at, take-all}
 use Rattle.lists.specs.Lists.{Words, at}
 use Rattle.rows.specs.Rows.{Row}
-use Rattle.rows.specs.Words.{raised, lowered, written, putWords, takeWords}
+use Rattle.rows.specs.Words.{raised, lowered, written, putWords, shutWords}
 
 getD-behind : (p q : Words) (n i : ℕ) → length p ≡ n → at (p ++ q) (n + i) ≡ at q i
 getD-behind p q n i e = rw (← e) (getD-append-add p q i 0)
@@ -118,11 +118,11 @@ put-is w n i r s y z le fits len ey ez =
     let b : drop (f + w) y ≡ rest = rw (ey, drop-at head rest (f + w) hl) in
     rw (ez, len, a, b, take-all w r (omega arith), append-assoc)
 
--- A row taken out: the rows above down, then zeros over the last
-pub take-is : (w n i : ℕ) (s y z : Words) → i * w + w ≤ n * w → n * w ≤ length s
-    → y ≡ lowered s (i * w) (i * w + w) (n * w - (i * w + w)) → z ≡ written y (n * w - w) (replicate w 0) w → z ≡ takeWords w n i s
-unfolding lowered written takeWords
-take-is w n i s y z le fits ey ez =
+-- A row taken out: the rows above down, then v over the last
+pub shut-is : (w n i : ℕ) (v s y z : Words) → i * w + w ≤ n * w → n * w ≤ length s → length v ≡ w
+    → y ≡ lowered s (i * w) (i * w + w) (n * w - (i * w + w)) → z ≡ written y (n * w - w) v w → z ≡ shutWords w n i v s
+unfolding lowered written shutWords
+shut-is w n i v s y z le fits len ey ez =
     let f = i * w in
     let t = n * w - w in
     let m = n * w - (f + w) in
@@ -133,4 +133,4 @@ take-is w n i s y z le fits ey ez =
     let a : take t y ≡ head = rw (e, take-at head (drop t s) t hl) in
     let k : t + w ≡ n * w = omega arith in
     let b : drop (t + w) y ≡ drop (n * w) s = rw (← drop-drop w t y, e, drop-at head (drop t s) t hl, drop-drop w t s, k) in
-    rw (ez, a, b, take-all {A = ℕ} w (replicate w 0) (rw length-replicate (omega arith))) (simp append-assoc)
+    rw (ez, a, b, take-all w v (omega arith)) (simp append-assoc)

@@ -17,14 +17,14 @@ use Rattle.rows.specs.declared.Found.{Found}
 use Rattle.rows.specs.declared.Found.the-variants.{At, Missing}
 use Rattle.rows.specs.Rows.{Row, Rows, cut, smaller, sameRow, notAfter, rising, putRow, hasRow, takeRow}
 use Rattle.rows.specs.Ranks.{rank, foundRow}
-use Rattle.rows.specs.Words.{raised, lowered, written, putWords, takeWords}
+use Rattle.rows.specs.Words.{raised, lowered, written, putWords, shutWords}
 use Rattle.rows.specs.Regions.{laid, putAt, takeAt, Region, Holds}
 use Rattle.rows.proofs.Ordered.{chain, smaller-greater, order-greater-differs, false-after, after-false, same-refl}
 use Rattle.rows.proofs.Sorted.{rising-first, rising-rest, rising-cons, rising-put}
 use Rattle.lists.proofs.Rises.{all-chain}
 use Rattle.rows.proofs.Cut.{row-fits, cut-length, cut-cons, cut-split, cut-take, take-cut, drop-cut, flat-cut}
 use Rattle.rows.proofs.Search.{smaller-falls, passed-below}
-use Rattle.rows.proofs.Moves.{put-is, take-is}
+use Rattle.rows.proofs.Moves.{put-is, shut-is}
 use Rattle.rows.proofs.Ranks.{place-le, There, found-row, missing-row}
 
 -- Tests of all elements, over parts of a list
@@ -150,14 +150,14 @@ module _ (w i b : ℕ) (s : Words) where
       let rest : cut w b tail ≡ cut w b above = cut-take w b above ((i + b) * w - f) (drop ((i + b) * w + w) s) (omega arith) al in
       rw (cut-split w i (suc b) (take f s ++ (r ++ tail)), front, back, cut-cons w b r tail len, rest, take-cut w i b s, drop-cut w i b s)
 
-  take-rows : (i + suc b) * w ≤ length s → cut w (i + b) (takeWords w (i + suc b) i s) ≡ takeAt i (cut w (i + suc b) s)
-  unfolding takeWords
-  take-rows fits =
+  shut-rows : (v : Words) → (i + suc b) * w ≤ length s → cut w (i + b) (shutWords w (i + suc b) i v s) ≡ takeAt i (cut w (i + suc b) s)
+  unfolding shutWords
+  shut-rows v fits =
       let f = i * w in
       let n = (i + suc b) * w in
       let m : n ≡ f + w + b * w = omega (arith, add-mul i (suc b) w, suc-mul b w) in
       let above : Words = drop (f + w) s in
-      let end : Words = replicate w 0 ++ drop n s in
+      let end : Words = v ++ drop n s in
       let tail : Words = take (n - (f + w)) above ++ end in
       let al : n - (f + w) ≤ length above = simp length-drop (omega arith) in
       let front : cut w i (take f s ++ tail) ≡ cut w i s = cut-take w i s f tail refl (omega arith) in
@@ -173,14 +173,14 @@ cut-put w n i r s h fits len =
     let e′ : i + suc (n - i) ≡ suc n = omega arith in
     rw (e, e′) at (put-rows w i (n - i) s r (rw e fits) len)
 
-cut-takeAt : (w n i : ℕ) (s : Words) → i ≤ n → suc n * w ≤ length s → cut w n (takeWords w (suc n) i s) ≡ takeAt i (cut w (suc n) s)
-cut-takeAt w n i s h fits =
+pub cut-shut : (w n i : ℕ) (v s : Words) → i ≤ n → suc n * w ≤ length s → cut w n (shutWords w (suc n) i v s) ≡ takeAt i (cut w (suc n) s)
+cut-shut w n i v s h fits =
     let e : i + (n - i) ≡ n = omega arith in
     let e′ : i + suc (n - i) ≡ suc n = omega arith in
-    rw (e, e′) at (take-rows w i (n - i) s (rw e′ fits))
+    rw (e, e′) at (shut-rows w i (n - i) s v (rw e′ fits))
 
 module _ (w n i : ℕ) (r : Row) (s : Words) (h : i * w ≤ n * w) (fits : n * w + w ≤ length s) (len : length r ≡ w) where
-  put-length : length (putWords w n i r s) ≡ length s
+  pub put-length : length (putWords w n i r s) ≡ length s
   unfolding putWords
   put-length = simp (length-append, length-take, length-drop) (omega arith)
 
@@ -192,18 +192,18 @@ module _ (w n i : ℕ) (r : Row) (s : Words) (h : i * w ≤ n * w) (fits : n * w
       let e : putWords w n i r s ≡ head ++ drop (n * w + w) s = simp append-assoc in
       rw (e, drop-at head (drop (n * w + w) s) (n * w + w) hl)
 
-module _ (w n i : ℕ) (s : Words) (h : i * w + w ≤ n * w) (fits : n * w ≤ length s) where
-  take-length : length (takeWords w n i s) ≡ length s
-  unfolding takeWords
-  take-length = simp (length-append, length-take, length-drop, length-replicate) (omega arith)
+module _ (w n i : ℕ) (v s : Words) (h : i * w + w ≤ n * w) (fits : n * w ≤ length s) (len : length v ≡ w) where
+  pub shut-length : length (shutWords w n i v s) ≡ length s
+  unfolding shutWords
+  shut-length = simp (length-append, length-take, length-drop) (omega arith)
 
-  take-behind : drop (n * w - w) (takeWords w n i s) ≡ replicate w 0 ++ drop (n * w) s
-  unfolding takeWords
-  take-behind =
+  pub shut-behind : drop (n * w - w) (shutWords w n i v s) ≡ v ++ drop (n * w) s
+  unfolding shutWords
+  shut-behind =
       let head : Words = take (i * w) s ++ take (n * w - (i * w + w)) (drop (i * w + w) s) in
-      let end : Words = replicate w 0 ++ drop (n * w) s in
+      let end : Words = v ++ drop (n * w) s in
       let hl : length head ≡ n * w - w = simp (length-append, length-take, length-drop) (omega arith) in
-      let e : takeWords w n i s ≡ head ++ end = simp append-assoc in
+      let e : shutWords w n i v s ≡ head ++ end = simp append-assoc in
       rw (e, drop-at head end (n * w - w) hl)
 
 -- The whole of `put_at` and of `take_at`
@@ -227,12 +227,14 @@ region-take w zero i s y z g l moved cleared = absurd (not-suc-le-zero l)
 region-take w (suc n) i s y z g l moved cleared =
     let rows : Rows = cut w (suc n) s in
     let h : i * w + w ≤ suc n * w = row-fits w (suc n) i (suc n * w) l (le-refl (suc n * w)) in
-    let ez : z ≡ takeWords w (suc n) i s = take-is w (suc n) i s y z h (g .fits) moved cleared in
-    let c : cut w n z ≡ takeAt i rows = rw (ez, cut-takeAt w n i s (omega arith) (g .fits)) in
+    let zs : Words = replicate w 0 in
+    let len : length zs ≡ w = length-replicate w 0 in
+    let ez : z ≡ shutWords w (suc n) i zs s = shut-is w (suc n) i zs s y z h (g .fits) len moved cleared in
+    let c : cut w n z ≡ takeAt i rows = rw (ez, cut-shut w n i zs s (omega arith) (g .fits)) in
     let m : suc n * w - w ≡ n * w = omega (arith, suc-mul n w) in
-    let zl : length z ≡ length s = ap length ez ∙ take-length w (suc n) i s h (g .fits) in
+    let zl : length z ≡ length s = ap length ez ∙ shut-length w (suc n) i zs s h (g .fits) len in
     let t : T (all (eqb 0) (drop (suc n * w - w) z)) =
-    rw (ez, take-behind w (suc n) i s h (g .fits)) (all-append (eqb 0) (replicate w 0) (drop (suc n * w) s) (all-zeros w) (g .zeros)) in
+    rw (ez, shut-behind w (suc n) i zs s h (g .fits) len) (all-append (eqb 0) (replicate w 0) (drop (suc n * w) s) (all-zeros w) (g .zeros)) in
     let p : suc n - 1 ≡ n = omega arith in
     rw p (holds w n (takeAt i rows) z c (record {
       fits = omega (arith, suc-mul n w, g .fits);
@@ -241,7 +243,7 @@ region-take w (suc n) i s y z g l moved cleared =
     }))
 
 -- The whole of `replace`
-cut-written : (w n i : ℕ) (r : Row) (s : Words) → i < n → n * w ≤ length s → length r ≡ w → cut w n (written s (i * w) r w) ≡ set (cut w n s) i r
+pub cut-written : (w n i : ℕ) (r : Row) (s : Words) → i < n → n * w ≤ length s → length r ≡ w → cut w n (written s (i * w) r w) ≡ set (cut w n s) i r
 unfolding written
 cut-written w n i r s l fits len =
     let f = i * w in
@@ -260,22 +262,31 @@ cut-written w n i r s l fits len =
     rw (cut-split w i (suc b) (take f s ++ tail), front, back, cut-cons w b r (drop (f + w) s) len) in
     ap (cut w n) t ∙ (rw e at c) ∙ sym (rw (set-split (cut w n s) i r (rw cut-length l), a, d))
 
-pub region-replace : (w n i : ℕ) (r : Row) (s z : Words) → Region w n s → i < n → length r ≡ w → T (rising (set (cut w n s) i r))
-    → z ≡ written s (i * w) r (length r) → Holds w n (set (cut w n s) i r) z
+pub written-behind : (w n i : ℕ) (r : Row) (s : Words) → i < n → n * w ≤ length s → length r ≡ w
+    → drop (n * w) (written s (i * w) r w) ≡ drop (n * w) s
 unfolding written
-region-replace w n i r s z g l len u ez′ =
+written-behind w n i r s l fits len =
     let f = i * w in
-    let ez : z ≡ written s f r w = ez′ ∙ ap (written s f r) len in
     let h : f + w ≤ n * w = row-fits w n i (n * w) l (le-refl (n * w)) in
-    let fits : n * w ≤ length s = g .fits in
-    let c : cut w n z ≡ set (cut w n s) i r = rw ez (cut-written w n i r s l fits len) in
     let head : Words = take f s ++ take w r in
     let hl : length head ≡ f + w = simp (length-append, length-take) (omega arith) in
-    let zl : length z ≡ length s = rw ez (simp (length-append, length-take, length-drop) (omega arith)) in
     let m : f + w + (n * w - (f + w)) ≡ n * w = omega arith in
-    let d : drop (n * w) z ≡ drop (n * w) s =
-    rw (← m, ← drop-drop (n * w - (f + w)) (f + w) z, ← drop-drop (n * w - (f + w)) (f + w) s, ez, drop-at head (drop (f + w) s) (f + w) hl) in
-    holds w n (set (cut w n s) i r) z c (record { fits = omega arith; up = rw c u; zeros = rw d (g .zeros) })
+    rw (← m, ← drop-drop (n * w - (f + w)) (f + w) (head ++ drop (f + w) s), ← drop-drop (n * w - (f + w)) (f + w) s, drop-at head (drop (f + w) s) (f + w) hl)
+
+pub written-long : (w n i : ℕ) (r : Row) (s : Words) → i < n → n * w ≤ length s → length r ≡ w → length (written s (i * w) r w) ≡ length s
+unfolding written
+written-long w n i r s l fits len =
+    let h : i * w + w ≤ n * w = row-fits w n i (n * w) l (le-refl (n * w)) in
+    simp (length-append, length-take, length-drop) (omega arith)
+
+pub region-replace : (w n i : ℕ) (r : Row) (s z : Words) → Region w n s → i < n → length r ≡ w → T (rising (set (cut w n s) i r))
+    → z ≡ written s (i * w) r (length r) → Holds w n (set (cut w n s) i r) z
+region-replace w n i r s z g l len u ez′ =
+    let ez : z ≡ written s (i * w) r w = ez′ ∙ ap (written s (i * w) r) len in
+    let c : cut w n z ≡ set (cut w n s) i r = rw ez (cut-written w n i r s l (g .fits) len) in
+    let zl : length z ≡ length s = ap length ez ∙ written-long w n i r s l (g .fits) len in
+    let d : drop (n * w) z ≡ drop (n * w) s = ap (drop (n * w)) ez ∙ written-behind w n i r s l (g .fits) len in
+    holds w n (set (cut w n s) i r) z c (record { fits = omega (arith, g .fits); up = rw c u; zeros = rw d (g .zeros) })
 
 -- `take`: by what `find` answered
 module _ (w n : ℕ) (r : Row) (s : Words) (f : Found) (g : Region w n s) (e : f ≡ foundRow r (cut w n s)) where

@@ -13,7 +13,7 @@ use lib.ListN.{length, getD, set, take, drop, length-append, length-drop, take-a
 use lib.Seq.{getD-append-add, getD-take, getD-drop, length-take-le, set-at, take-suc, take-add, take-take, take-at, drop-at}
 use borrow.Author.Tests.{ltb-true, ltb-false, leb-true, leb-false, lt-ltb, le-ltb, le-leb, lt-leb, ne-eqb, eq-eqb}
 use Rattle.lists.specs.Lists.{Words, at}
-use Rattle.lists.proofs.Truth.{T→≡, F→≡, mem-getD, member→Mem, Mem→member}
+use Rattle.lists.proofs.Truth.{F→≡, mem-getD, member→Mem, Mem→member}
 use Rattle.lists.proofs.Search.{Falls, Bracket, bracket-up, bracket-down}
 use Rattle.rows.specs.Words.{raised}
 use Rattle.rows.specs.Marks.{isMarked, Numbers, Below, Gap, putNumber}
@@ -114,7 +114,12 @@ module _ {n : ℕ} {numbers : Words} (r : Numbers n numbers) where
     stretch-start =
         record {
           from = omega arith;
-          bracket = record { low = be .inside; high = omega arith; below = λ i l. le-leb (at numbers i + before) (first + i) (early i l); above = λ i h l. absurd (omega arith) };
+          bracket = record {
+            low = be .inside;
+            high = omega arith;
+            below = λ i l. le-leb (at numbers i + before) (first + i) (early i l);
+            above = λ i h l. absurd (omega arith);
+          };
         }
       where
         early : (i : ℕ) → i < before → at numbers i + before ≤ first + i
@@ -127,7 +132,10 @@ module _ {n : ℕ} {numbers : Words} (r : Numbers n numbers) where
     module _ (lo hi m : ℕ) (b : Stretch numbers first before lo hi) (h : lo ≤ m) (l : m < hi) where
       pub stretch-up : at numbers m + before ≤ first + m → Stretch numbers first before (m + 1) hi
       stretch-up e =
-          record { from = omega (arith, b .from); bracket = bracket-up _ _ within-falls lo hi m (b .bracket) h l (le-leb (at numbers m + before) (first + m) e) }
+          record {
+            from = omega (arith, b .from);
+            bracket = bracket-up _ _ within-falls lo hi m (b .bracket) h l (le-leb (at numbers m + before) (first + m) e);
+          }
 
       pub stretch-down : first + m < at numbers m + before → Stretch numbers first before lo m
       stretch-down e =
@@ -284,7 +292,8 @@ put-written s y many k i x h l ei ey =
     let rest : Words = moved ++ drop (many + 1) s in
     let e : y ≡ take k s ++ (at s k ∷ rest) = ey ∙ rw (ei, add-one k, take-suc s k 0 (omega arith), append-assoc) in
     let new : Words = take k s ++ (x ∷ moved) in
-    let whole : set y k x ≡ new ++ drop (many + 1) s = rw (e, set-at (take k s) (at s k) rest x k front-long) (sym (append-assoc (take k s) (x ∷ moved) (drop (many + 1) s))) in
+    let whole : set y k x ≡ new ++ drop (many + 1) s =
+    rw (e, set-at (take k s) (at s k) rest x k front-long) (sym (append-assoc (take k s) (x ∷ moved) (drop (many + 1) s))) in
     let long : length new ≡ many + 1 = length-append (take k s) (x ∷ moved) ∙ omega (arith, front-long, moved-long) in
     let p : k + (many - k) ≡ many = omega arith in
     let run : take many s ≡ take k s ++ moved = ap (λ (m : ℕ). take m s) (sym p) ∙ take-add k (many - k) s in

@@ -2,7 +2,7 @@
 -- Assumes nothing.
 use Prim.Native.Nat.{ℕ, _+_, _-_, _*_}
 use mathlib.Core.List.{_++_}
-use lib.ListN.{take, drop, replicate}
+use lib.ListN.{take, drop}
 use Rattle.lists.specs.Lists.{Words}
 use Rattle.rows.specs.Rows.{Row}
 
@@ -21,9 +21,9 @@ raised s k t w = take (k + w) s ++ (take (t - k) (drop k s) ++ drop (t + w) s)
 unfoldable pub lowered : Words → ℕ → ℕ → ℕ → Words
 lowered s t f n = take t s ++ (take n (drop f s) ++ drop (t + n) s)
 
--- of n rows of w words: r comes in as row i and the rows above go up; row i goes out, the rows above go down and zeros come in
+-- of n rows of w words: r comes in as row i and the rows above go up; row i goes out, the rows above go down and v comes in behind them
 unfoldable pub putWords : ℕ → ℕ → ℕ → Row → Words → Words
 putWords w n i r s = take (i * w) s ++ (r ++ (take (n * w - i * w) (drop (i * w) s) ++ drop (n * w + w) s))
 
-unfoldable pub takeWords : ℕ → ℕ → ℕ → Words → Words
-takeWords w n i s = take (i * w) s ++ (take (n * w - (i * w + w)) (drop (i * w + w) s) ++ (replicate w 0 ++ drop (n * w) s))
+unfoldable pub shutWords : ℕ → ℕ → ℕ → Words → Words → Words
+shutWords w n i v s = take (i * w) s ++ (take (n * w - (i * w + w)) (drop (i * w + w) s) ++ (v ++ drop (n * w) s))

@@ -5,12 +5,10 @@ use key_order::no_key_twice;
 use key_order::order_by_key;
 use rows::Found;
 use sorting::settle;
-use sorting::sort_few;
 use sorting::sort_rows;
 ghost use mathlib.Core.Path.{_≡_};
 ghost use Prim.Native.Nat.{_*_, _/_, _≤_};
-ghost use lib.ListN.{length, replicate};
-ghost use Rattle.rows.specs.Rows.{cut};
+ghost use lib.ListN.{length};
 ghost use Rattle.rows.specs.Regions.{Region};
 ghost use Rattle.rows.specs.Marks.{Run};
 ghost use Rattle.key_order.specs.Orders.{InKeyOrder};
@@ -202,21 +200,43 @@ fn by_heap() {
     show(&s);
 }
 
-// Five rows of three words, of which the first belongs behind and the last in front.
-fn by_insertion() {
-    let mut s: [u64; 15] = [STEP + 1, 0, 0, 1, 1, 1, 1, 1, 1, 2, 0, LAST, 1, 1, 0];
-    sort_few(&mut s, 3, 5);
+// Five rows of three words: three stand, and the two behind them, the last of which belongs in front of all, come in.
+fn by_merge() {
+    let mut s: [u64; 15] = [1, 1, 1, 2, 0, LAST, STEP + 1, 0, 0, 1, 1, 1, 1, 1, 0];
+    settle(&mut s, 3, 3, 5);
     show(&s);
 }
 
-// Rows of no words, no rows, and rows of one word by each of the two sorts.
-fn narrow(loose: usize) {
+// Rows of no words, no rows, and rows of one word: a few, and many that fall.
+fn narrow() {
     let mut s: [u64; 5] = [3, 1, 4, 0, 2];
     sort_rows(&mut s, 0, 100);
-    settle(&mut s, 5, 0, loose);
+    settle(&mut s, 5, 0, 0);
     show(&s);
-    settle(&mut s, 1, 5, loose);
+    settle(&mut s, 1, 0, 5);
     show(&s);
+    let mut falling: [u64; 18] = [
+        18,
+        17,
+        16,
+        15,
+        14,
+        13,
+        12,
+        11,
+        10,
+        9,
+        8,
+        7,
+        6,
+        5,
+        4,
+        3,
+        2,
+        1,
+    ];
+    settle(&mut falling, 1, 0, 18);
+    show(&falling);
 }
 
 // The place of key k in order; 99 if it is missing.
@@ -274,9 +294,8 @@ fn main() {
     barcodes();
     equals();
     by_heap();
-    by_insertion();
-    narrow(5);
-    narrow(17);
+    by_merge();
+    narrow();
     numbers();
     twice();
 }

@@ -8,7 +8,7 @@ use mathlib.Core.Logic.{inl, inr}
 use native.Mathlib.Nat.{add-zero, add-suc, suc-add, zero-add, add-sub-of-le}
 use native.Mathlib.Omega.{arith}
 use lib.Dec.{ltb}
-use lib.ListN.{set, List·getD-eq-default}
+use lib.ListN.{set}
 use lib.Seq.{getD-at}
 use borrow.Author.Tests.{lt-ltb, le-ltb}
 use Rattle.lists.specs.Lists.{at, Mem, select, from, upTo}
@@ -36,10 +36,6 @@ chosen-at p n c k e h t =
     ∙ ap (λ (l : List ℕ). at l k) (select-append p (upTo c) (from c (suc (n - c - 1))))
     ∙ ap (λ (b : Bool). at (select p (upTo c) ++ cond b (c ∷ select p (from (suc c) (n - c - 1))) (select p (from (suc c) (n - c - 1)))) k) t
     ∙ getD-at (select p (upTo c)) c (select p (from (suc c) (n - c - 1))) 0 k (length-upTo p c ∙ sym e)
-
--- past the last there is 0
-pub chosen-past : (p : ℕ → Bool) (n k : ℕ) → counted p n ≤ k → at (select p (upTo n)) k ≡ 0
-chosen-past p n k h = List·getD-eq-default (select p (upTo n)) 0 (omega (arith, length-upTo p n))
 
 pub select-fails : {A : Type 0} (p : A → Bool) (xs : List A) → ((x : A) → Mem x xs → p x ≡ false) → select p xs ≡ []
 select-fails p [] h = refl

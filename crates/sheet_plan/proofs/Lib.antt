@@ -1,4 +1,6 @@
 pub mod Chosen
+pub mod Laying
+pub mod Marking
 pub mod Shown
 pub mod Sizes
 pub mod Steps

@@ -6,19 +6,20 @@ use mathlib.Core.Bool.{Bool, true, false, _&&_}
 use mathlib.Core.List.{List, map}
 use native.Mathlib.Omega.{arith}
 use lib.Dec.{eqb, ltb}
-use lib.ListN.{replicate, length-map, List·getD-eq-default}
+use lib.ListN.{getD, replicate, length-map, List·getD-eq-default}
 use borrow.Author.Tests.{le-ltb, ltb-true, ltb-false}
 use Rattle.lists.specs.Lists.{Words, at, upTo}
 use Rattle.lists.specs.Totals.{one}
 use Rattle.lists.proofs.Truth.{upTo-mem, select-same}
-use Rattle.lists.proofs.Loops.{getD-filled}
+use Rattle.lists.specs.Loops.{filled}
+use Rattle.lists.proofs.Loops.{length-filled, getD-filled}
 use Rattle.lists.proofs.Places.{length-from}
 use Rattle.meaning.specs.Sheet.{sheetOf, width, hasColumn, tableCount}
 use Rattle.meaning.specs.Plan.{isShown, shown}
 use Rattle.sheet.specs.Rules.{Rules}
 use Rattle.sheet.specs.Numbered.{widthNo}
 use Rattle.sheet.proofs.Words.{n-is, width-is, widths-are}
-use Rattle.sheet_plan.specs.Marks.{hasMark, markedIn, markedAt, listsOf}
+use Rattle.sheet_plan.specs.Marks.{hasMark, markedIn, markedAt, listsOf, UnmarkedFrom}
 use Rattle.sheet_plan.specs.Plans.{showsAt, showsOf, shownAt, shownOf}
 use Rattle.sheet_plan.proofs.Chosen.{select-narrow, filled-same}
 
@@ -58,6 +59,19 @@ module _ (ws : Words) (r : Rules ws) where
       let q : (8 * t + c) / 8 ≡ t = omega arith in
       let m : (8 * t + c) % 8 ≡ c = omega arith in
       rw (getD-filled (showsAt (sheetOf ws)) 64 (8 * t + c) 0 (replicate 64 0) (omega arith) (omega arith), q, m, one-is, has-column t c)
+
+  -- nothing is marked behind the tables
+  pub shows-past : (m : List ℕ) (n : ℕ) → m ≡ showsOf (sheetOf ws) → n ≡ tableCount ws → UnmarkedFrom (8 * n) m
+  unfolding showsOf showsAt
+  shows-past m n e q i h = ap (λ (l : List ℕ). getD l i 0) e ∙ go (ltb i 64) refl
+    where
+      go : (b : Bool) → ltb i 64 ≡ b → getD (filled (showsAt (sheetOf ws)) 64 (replicate 64 0)) i 0 ≡ 0
+      go true z =
+          getD-filled (showsAt (sheetOf ws)) 64 i 0 (replicate 64 0) (ltb-true i 64 z) (omega arith)
+          ∙ rw (ap (ltb (i / 8)) (n-is ws) ∙ le-ltb (i / 8) (tableCount ws) (omega arith)) refl
+      go false z =
+          List·getD-eq-default (filled (showsAt (sheetOf ws)) 64 (replicate 64 0)) 0
+          (omega (arith, ltb-false i 64 z, length-filled (showsAt (sheetOf ws)) 64 (replicate 64 0)))
 
   pub marked-columns : (t : ℕ) → t < 8 → markedIn (showsOf (sheetOf ws)) t ≡ shown (sheetOf ws) t
   unfolding markedIn shown

@@ -1,34 +1,30 @@
 -- The ways through the functions that fill the arrays, said of words and numbers.
 -- Assumes nothing.
-use Prim.Native.Nat.{ℕ, _+_, _*_, _/_, _%_, _<_, _≤_}
+use Prim.Native.Nat.{ℕ, _+_, _*_, _≤_}
 use mathlib.Core.Path.{_≡_, sym, ap, _∙_}
-use mathlib.Core.Bool.{Bool, true, false}
+use mathlib.Core.Bool.{true, false}
 use mathlib.Core.List.{List}
 use native.Mathlib.Omega.{arith}
 use lib.ListN.{getD, set, replicate}
 use borrow.Author.Tests.{eq-eqb, ne-eqb}
 use Rattle.lists.specs.Lists.{Words}
-use Rattle.lists.specs.Totals.{one}
 use Rattle.lists.specs.Loops.{filled}
 use Rattle.lists.proofs.Loops.{filled-more, filled-end}
-use Rattle.meaning.specs.Sheet.{sheetOf, hasColumn, tableCount}
+use Rattle.meaning.specs.Sheet.{sheetOf, tableCount}
 use Rattle.meaning.specs.Plan.{start, storeLength}
 use Rattle.meaning.specs.Plan as Meant
 use Rattle.sheet.specs.Rules.{Rules}
 use Rattle.sheet.specs.Verdicts.{verdictOf}
 use Rattle.sheet.specs.declared.Verdict.{Verdict}
 use Rattle.sheet.specs.declared.Verdict.the-variants.{Good, Refused}
-use Rattle.sheet.specs.Counted.{counted}
 use Rattle.sheet.proofs.Words.{n-is}
-use Rattle.derive.specs.Derived.{shownNo}
-use Rattle.sheet_plan.specs.Marks.{hasMark, markedIn, markedAt, listsOf, placesOf}
+use Rattle.sheet_plan.specs.Marks.{hasMark, listsOf, placesOf}
 use Rattle.sheet_plan.specs.Orders.{orderOf}
-use Rattle.sheet_plan.specs.Plans.{keptOf, showsAt, showsOf, columnsOf, roomsOf, startsOf, planFor, emptyPlan, checkedOf}
+use Rattle.sheet_plan.specs.Plans.{keptOf, showsOf, columnsOf, roomsOf, startsOf, planFor, emptyPlan, checkedOf}
 use Rattle.sheet_plan.specs.declared.Plan.{Plan}
 use Rattle.sheet_plan.specs.declared.Checked.{Checked}
 use Rattle.sheet_plan.proofs.Shown.{lists-shown}
 use Rattle.sheet_plan.proofs.Sizes.{starts-read}
-use Rattle.sheet_plan.proofs.Chosen.{chosen-at, chosen-past}
 
 -- a loop over the tables, or over the parts, has come to its end
 pub tables-end : (f : ℕ → ℕ) (ws : Words) (k : ℕ) (d a : List ℕ) → k ≤ tableCount ws → tableCount ws ≤ k → a ≡ filled f k d → a ≡ filled f (sheetOf ws .n) d
@@ -49,15 +45,6 @@ starts-filled ws k m end r e h l a b =
     (filled-more (start (sheetOf ws)) m end (replicate 10 0) r (a ∙ ap (λ (j : ℕ). filled (start (sheetOf ws)) j (replicate 10 0)) q)
     (b ∙ ap (start (sheetOf ws)) q))
 
-pub shows-none : (ws : Words) (i : ℕ) → hasColumn (sheetOf ws) (i / 8) (i % 8) ≡ false → 0 ≡ showsAt (sheetOf ws) i
-unfolding showsAt
-shows-none ws i h = rw h
-
-pub shows-mark : (ws : Words) (i v : ℕ) (b : Bool) → hasColumn (sheetOf ws) (i / 8) (i % 8) ≡ true → b ≡ shownNo ws (i / 8) (i % 8) → v ≡ one b
-    → v ≡ showsAt (sheetOf ws) i
-unfolding showsAt shownNo
-shows-mark ws i v b h e m = rw h (m ∙ ap one e)
-
 module _ (marks : List ℕ) (t : ℕ) where
   pub marked-yes : (c : ℕ) → getD marks (8 * t + c) 0 ≡ 1 → hasMark marks t c ≡ true
   unfolding hasMark
@@ -66,15 +53,6 @@ module _ (marks : List ℕ) (t : ℕ) where
   pub marked-no : (c : ℕ) → (getD marks (8 * t + c) 0 ≡ 1 → ⊥) → hasMark marks t c ≡ false
   unfolding hasMark
   marked-no c h = ne-eqb _ _ h
-
-  -- number j, and none past the last
-  pub marked-found : (j c many : ℕ) → many ≡ counted (hasMark marks t) c → c < 8 → many ≡ j → getD marks (8 * t + c) 0 ≡ 1 → c ≡ markedAt marks t j
-  unfolding markedAt markedIn
-  marked-found j c many e h q m = sym (chosen-at (hasMark marks t) 8 c j (sym q ∙ e) h (marked-yes c m))
-
-  pub marked-past : (j many : ℕ) → many ≡ counted (hasMark marks t) 8 → many ≤ j → 0 ≡ markedAt marks t j
-  unfolding markedAt markedIn
-  marked-past j many e h = sym (chosen-past (hasMark marks t) 8 j (omega arith))
 
 -- the plan, put together
 pub plan-made : (ws : Words) → Rules ws → (tables root : ℕ) (kept shows shown columns rooms starts order places : List ℕ)

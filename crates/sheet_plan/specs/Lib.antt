@@ -1,4 +1,5 @@
 pub mod Marks
+pub mod Marked
 pub mod Orders
 pub mod Plans
 pub mod Planned

@@ -1,10 +1,11 @@
 -- Sets as marks: eight places for each table, from 8t on; the marked numbers of a table as a rising list, and the place of each in it.
 -- Assumes nothing.
-use Prim.Native.Nat.{ℕ, _+_, _*_, _/_, _%_}
-use mathlib.Core.Bool.{Bool}
+use Prim.Native.Nat.{ℕ, zero, suc, _+_, _*_, _/_, _%_, _≤_}
+use mathlib.Core.Path.{_≡_}
+use mathlib.Core.Bool.{Bool, cond}
 use mathlib.Core.List.{List}
 use lib.Dec.{eqb}
-use lib.ListN.{getD, replicate}
+use lib.ListN.{getD, set, replicate}
 use Rattle.lists.specs.Lists.{at, select, upTo}
 use Rattle.lists.specs.Loops.{filled}
 use Rattle.meaning.specs.Limits.{mostColumns, mostPlaces}
@@ -31,3 +32,16 @@ placeNo marks i = counted (hasMark marks (i / mostColumns)) (i % mostColumns)
 
 unfoldable pub placesOf : List ℕ → List ℕ
 placesOf marks = filled (placeNo marks) mostPlaces (replicate mostPlaces 0)
+
+-- Row by row: the places before i are filled; the numbers before i that are marked, each put at its place in its row
+unfoldable pub placesTo : List ℕ → ℕ → List ℕ
+placesTo marks i = filled (placeNo marks) i (replicate mostPlaces 0)
+
+unfoldable pub listsTo : List ℕ → ℕ → List ℕ
+listsTo marks zero = replicate mostPlaces 0
+listsTo marks (suc i) =
+    cond (eqb (getD marks i 0) 1) (set (listsTo marks i) (mostColumns * (i / mostColumns) + placeNo marks i) (i % mostColumns)) (listsTo marks i)
+
+-- no number is marked from place k on
+abbrev pub UnmarkedFrom : ℕ → List ℕ → Type 0
+UnmarkedFrom k marks = (i : ℕ) → k ≤ i → getD marks i 0 ≡ 0

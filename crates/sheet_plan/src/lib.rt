@@ -2,10 +2,9 @@
 mod marks;
 mod outward;
 
+use marks::lay_rows;
 pub use marks::mark_of;
-use marks::marked_lists;
 use marks::marks_before;
-use marks::places_of;
 use outward::order_of;
 use sheet::COLUMNS;
 use sheet::PARTS;
@@ -13,12 +12,15 @@ use sheet::PLACES;
 use sheet::TABLES;
 use sheet::Verdict;
 ghost use mathlib.Core.Path.{_≡_};
-ghost use Prim.Native.Nat.{ℕ, _+_, _*_, _≤_, _<_};
-ghost use Rattle.meaning.specs.Sheet.{sheetOf, tableCount};
-ghost use Rattle.meaning.specs.Plan.{columns, size, storeLength};
-ghost use Rattle.sheet.specs.Rules.{Counts};
+ghost use Prim.Native.Nat.{_+_, _*_, _≤_, _<_};
+ghost use lib.ListN.{set};
+ghost use Rattle.meaning.specs.Limits.{mostTables, mostColumns};
+ghost use Rattle.meaning.specs.Sheet.{sheetOf, tableCount, edgeCount, listedCount};
+ghost use Rattle.meaning.specs.Plan.{columns, size};
+ghost use Rattle.sheet.specs.Rules.{Counts, Rules};
 ghost use Rattle.sheet.specs.Tree.{GoodSheet};
-ghost use Rattle.sheet_plan.specs.Plans.{keptOf, showsAt, showsOf, shownOf, columnsOf, roomsOf, startsOf, planFor, emptyPlan, checkedOf};
+ghost use Rattle.sheet_plan.specs.Marked.{markedBy, keyPlace, edgePlace, listingPlace};
+ghost use Rattle.sheet_plan.specs.Plans.{keptOf, showsOf, columnsOf, roomsOf, startsOf, planFor, emptyPlan, checkedOf};
 
 // Part t is table t's, part n (tables) the list's. Column sets have eight places for each table, from 8t on.
 pub struct Plan {
@@ -62,34 +64,71 @@ fn kept_marks(sheet: &[u64]) -> [u64; TABLES]
     m
 }
 
-// Whether table i / 8 has a column i % 8 and its side table shows it.
-fn shows_at(sheet: &[u64], i: usize) -> u64
-    requires { ⌜ GoodSheet (now sheet) ⌝ }
-    ensures { λ r. ⌜ r ≡ showsAt (sheetOf (now (sheet .entry))) i ⌝ }
+// Marks column c of table t.
+fn mark(m: &mut [u64; PLACES], t: usize, c: usize)
+    requires { ⌜ (t < mostTables) × (c < mostColumns) ⌝ }
+    ensures { λ _. ⌜ now (m .exit) ≡ set (now (m .entry)) (mostColumns * t + c) 1 ⌝ }
 {
-    if !sheet::has_column(sheet, i / COLUMNS, i % COLUMNS) {
-        return 0;
-    }
-    mark_of(derive::is_shown(sheet, i / COLUMNS, i % COLUMNS))
+    m[COLUMNS * t + c] = 1;
 }
 
+// Marks the key of each table.
+fn mark_keys(sheet: &[u64], m: &mut [u64; PLACES])
+    requires { ⌜ Counts (now sheet) ⌝ }
+    ensures { λ _. ⌜ now (m .exit) ≡ markedBy keyPlace (tableCount (now (sheet .entry))) (now (m .entry)) ⌝ }
+{
+    let n = sheet::tables(sheet);
+    let mut t = 0;
+    while t < n {
+        mark(m, t, 0);
+        t += 1;
+    }
+}
+
+// Marks the child column of each edge.
+fn mark_child_columns(sheet: &[u64], m: &mut [u64; PLACES])
+    requires { ⌜ Rules (now sheet) ⌝ }
+    ensures { λ _. ⌜ now (m .exit) ≡ markedBy (edgePlace (now (sheet .entry))) (edgeCount (now (sheet .entry))) (now (m .entry)) ⌝ }
+{
+    let e = sheet::edges(sheet);
+    let mut k = 0;
+    while k < e {
+        let edge = sheet::edge_no(sheet, k);
+        mark(m, edge.child, edge.column);
+        k += 1;
+    }
+}
+
+// Marks each listed column.
+fn mark_listed(sheet: &[u64], m: &mut [u64; PLACES])
+    requires { ⌜ Rules (now sheet) ⌝ }
+    ensures { λ _. ⌜ now (m .exit) ≡ markedBy (listingPlace (now (sheet .entry))) (listedCount (now (sheet .entry))) (now (m .entry)) ⌝ }
+{
+    let p = sheet::listed(sheet);
+    let mut k = 0;
+    while k < p {
+        let listing = sheet::listing_no(sheet, k);
+        mark(m, listing.table, listing.column);
+        k += 1;
+    }
+}
+
+// The columns that the side tables show, each marked at 8t + c: the keys, the child columns and the listed columns.
 fn shows_marks(sheet: &[u64]) -> [u64; PLACES]
     requires { ⌜ GoodSheet (now sheet) ⌝ }
     ensures { λ m. ⌜ m ≡ showsOf (sheetOf (now (sheet .entry))) ⌝ }
 {
     let mut m = [0u64; PLACES];
-    let mut i = 0;
-    while i < PLACES {
-        m[i] = shows_at(sheet, i);
-        i += 1;
-    }
+    mark_keys(sheet, &mut m);
+    mark_child_columns(sheet, &mut m);
+    mark_listed(sheet, &mut m);
     m
 }
 
 // How many columns the rows of a part have: none for an unkept table, the listed columns for the list.
-fn columns_in(sheet: &[u64], kept: [u64; TABLES], shows: [u64; PLACES], part: usize) -> usize
-    requires { ⌜ GoodSheet (now sheet) × ((kept ≡ keptOf (sheetOf (now sheet)))
-        × ((shows ≡ showsOf (sheetOf (now sheet))) × (part ≤ tableCount (now sheet)))) ⌝ }
+fn columns_in(sheet: &[u64], kept: &[u64; TABLES], shows: &[u64; PLACES], part: usize) -> usize
+    requires { ⌜ GoodSheet (now sheet) × ((now kept ≡ keptOf (sheetOf (now sheet)))
+        × ((now shows ≡ showsOf (sheetOf (now sheet))) × (part ≤ tableCount (now sheet)))) ⌝ }
     ensures { λ r. ⌜ r ≡ columns (sheetOf (now (sheet .entry))) part ⌝ }
 {
     if sheet::tables(sheet) <= part {
@@ -101,8 +140,8 @@ fn columns_in(sheet: &[u64], kept: [u64; TABLES], shows: [u64; PLACES], part: us
     marks_before(shows, part, COLUMNS)
 }
 
-fn columns_of(sheet: &[u64], kept: [u64; TABLES], shows: [u64; PLACES]) -> [usize; PARTS]
-    requires { ⌜ GoodSheet (now sheet) × ((kept ≡ keptOf (sheetOf (now sheet))) × (shows ≡ showsOf (sheetOf (now sheet)))) ⌝ }
+fn columns_of(sheet: &[u64], kept: &[u64; TABLES], shows: &[u64; PLACES]) -> [usize; PARTS]
+    requires { ⌜ GoodSheet (now sheet) × ((now kept ≡ keptOf (sheetOf (now sheet))) × (now shows ≡ showsOf (sheetOf (now sheet)))) ⌝ }
     ensures { λ r. ⌜ r ≡ columnsOf (sheetOf (now (sheet .entry))) ⌝ }
 {
     let m = sheet::tables(sheet) + 1;
@@ -130,17 +169,17 @@ fn rooms_of(sheet: &[u64]) -> [usize; PARTS]
 }
 
 // How many words a part has room for.
-fn size_of(sheet: &[u64], rooms: [usize; PARTS], columns: [usize; PARTS], part: usize) -> usize
-    requires { ⌜ GoodSheet (now sheet) × ((rooms ≡ roomsOf (sheetOf (now sheet)))
-        × ((columns ≡ columnsOf (sheetOf (now sheet))) × (part ≤ tableCount (now sheet)))) ⌝ }
+fn size_of(sheet: &[u64], rooms: &[usize; PARTS], columns: &[usize; PARTS], part: usize) -> usize
+    requires { ⌜ GoodSheet (now sheet) × ((now rooms ≡ roomsOf (sheetOf (now sheet)))
+        × ((now columns ≡ columnsOf (sheetOf (now sheet))) × (part ≤ tableCount (now sheet)))) ⌝ }
     ensures { λ r. ⌜ (r ≡ size (sheetOf (now (sheet .entry))) part) × (r ≤ 65536) ⌝ }
 {
     rooms[part] * columns[part]
 }
 
 // Where each part begins: behind the nine counts and the parts before it. Behind the list stands the store's end.
-fn starts_of(sheet: &[u64], rooms: [usize; PARTS], columns: [usize; PARTS]) -> [usize; PARTS + 1]
-    requires { ⌜ GoodSheet (now sheet) × ((rooms ≡ roomsOf (sheetOf (now sheet))) × (columns ≡ columnsOf (sheetOf (now sheet)))) ⌝ }
+fn starts_of(sheet: &[u64], rooms: &[usize; PARTS], columns: &[usize; PARTS]) -> [usize; PARTS + 1]
+    requires { ⌜ GoodSheet (now sheet) × ((now rooms ≡ roomsOf (sheetOf (now sheet))) × (now columns ≡ columnsOf (sheetOf (now sheet)))) ⌝ }
     ensures { λ r. ⌜ r ≡ startsOf (sheetOf (now (sheet .entry))) ⌝ }
 {
     let m = sheet::tables(sheet) + 1;
@@ -165,13 +204,14 @@ fn plan_for(sheet: &[u64]) -> Plan
     let root = derive::root_of(sheet);
     let kept = kept_marks(sheet);
     let shows = shows_marks(sheet);
-    let shown = marked_lists(shows);
-    let columns = columns_of(sheet, kept, shows);
+    let mut shown = [0usize; PLACES];
+    let mut places = [0usize; PLACES];
+    lay_rows(&shows, tables, &mut shown, &mut places);
+    let columns = columns_of(sheet, &kept, &shows);
     let rooms = rooms_of(sheet);
-    let starts = starts_of(sheet, rooms, columns);
+    let starts = starts_of(sheet, &rooms, &columns);
     let store = starts[tables + 1];
     let order = order_of(sheet, root);
-    let places = places_of(shows);
     Plan {
         tables: tables,
         root: root,

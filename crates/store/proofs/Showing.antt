@@ -20,7 +20,7 @@ use Rattle.places.proofs.Stands.{sound-stands}
 use Rattle.store.specs.declared.Part.{Part}
 use Rattle.store.specs.Parts.{countIn, Lies, Kept}
 use Rattle.store.specs.Plans.{GoodPlan, partOf, SoundIs}
-use Rattle.store.specs.Shows.{Gives, firstOf}
+use Rattle.store.specs.Shows.{Gives, Stands, firstOf}
 use Rattle.store.proofs.Parts.{words-length}
 use Rattle.store.proofs.Lying.{count-is, lies-kept}
 use Rattle.store.proofs.Plans.{tables-is, store-is, part-lies}
@@ -44,6 +44,10 @@ stretch-is s number q lies ws =
 -- and end within the store
 pub stretch-ends : (q : Part) (ws : Words) → Kept q ws → q .start + countIn q ws * q .columns ≤ length ws
 stretch-ends q ws k = omega (arith, k .within .ends, k .region .fits, words-length q ws k)
+
+pub part-stands : (sheet store : Words) (number : ℕ) (q : Part) → ShownPart sheet store number q
+    → Stands sheet store number (record { refusal = 0; first = q .start; count = countIn q store * q .columns })
+part-stands sheet store number q x = record { gives = x .rows; first-is = x .place; ends = stretch-ends q store (x .kept) }
 
 module _ (sheet store : Words) (number : ℕ) (c : Checked) (e : c ≡ checkedOf sheet) where
   pub show-refused : (k r : ℕ) → c .verdict ≡ Refused k → r ≡ verdictNumber (c .verdict) → Gives sheet store number [] r

@@ -1,15 +1,17 @@
 -- Each way through the show call: what it gives when a test is not passed, and when all are.
 -- Assumes nothing.
-use Prim.Native.Nat.{ℕ, zero, suc, _+_, _*_, _<_, _≤_}
-use mathlib.Core.Path.{_≡_, refl, sym, ap, _∙_}
+use Prim.Native.Nat.{ℕ, zero, suc, _+_, _<_, _≤_}
+use mathlib.Core.Path.{_≡_, refl, sym, ap, subst, _∙_}
 use mathlib.Core.Bool.{true, false}
 use mathlib.Core.List.{[]}
 use native.Mathlib.Omega.{arith}
 use lib.ListN.{length}
 use borrow.Author.Tests.{eq-eqb, ne-eqb, le-leb, lt-leb}
 use Rattle.lists.specs.Lists.{Words}
+use Rattle.lists.specs.Parts.{part}
 use denote.Ref.{RefT}
-use Rattle.store.specs.Shows.{Gives, firstOf, wordAt, HandsBack}
+use Rattle.store.specs.Shows.{Gives, firstOf, noStretch, Stands, wordAt, HandsBack}
+use Rattle.store.specs.declared.Stretch.{Stretch}
 use Rattle.meaning.specs.Sheet.{sheetOf, sheetRefusal}
 use Rattle.meaning.specs.Plan.{storeLength}
 use Rattle.meaning.specs.Store.{sound, showRefusal, stretchOf, show}
@@ -21,18 +23,21 @@ gives-once sheet store part v w j k x y =
     let same = x .gives .number-is ∙ sym (y .gives .number-is) in
     (x .gives .words-are ∙ sym (y .gives .words-are), x .stands ∙ ap (λ (n : ℕ). wordAt store (firstOf sheet part n)) same ∙ sym (y .stands), same)
 
--- a refusal hands back no words, from the store's first
-pub none-back : {sheet : Words} {store : RefT Words} {part : ℕ} {rows : RefT Words} {k : ℕ} → (k ≡ 0 → ⊥) → rows .ptr ≡ store .ptr
-    → Gives sheet (store .now) part (rows .now) k → HandsBack sheet store part rows k
-unfolding firstOf
-none-back {store} {k} d e g =
-    let first : store .ptr .1 ≡ 0 * 8 + store .ptr .1 = omega arith in
-    record { gives = g; stands = rw (ne-eqb k 0 d) (e ∙ ap (λ (o : ℕ). (store .ptr .0, o)) first) }
+-- no words stand at the store's first
+pub none-stand : {sheet store : Words} {number k : ℕ} {s : Stretch} → s ≡ noStretch k → (k ≡ 0 → ⊥) → Gives sheet store number [] k
+    → Stands sheet store number s
+unfolding firstOf part
+none-stand {sheet} {store} {number} {k} e d g =
+    subst (Stands sheet store number) (sym e) (record { gives = g; first-is = rw (ne-eqb k 0 d); ends = omega arith })
 
--- an accepted call hands back the part's rows, from where the part begins
-pub rows-back : {sheet : Words} {store : RefT Words} {part : ℕ} {rows : RefT Words} {first : ℕ} → first ≡ firstOf sheet part 0 → rows .ptr ≡ wordAt store first
-    → Gives sheet (store .now) part (rows .now) 0 → HandsBack sheet store part rows 0
-rows-back {store} f e g = record { gives = g; stands = e ∙ ap (wordAt store) f }
+-- the stretch handed back is the one that stands so
+pub hands-back : {sheet : Words} {store : RefT Words} {number : ℕ} {rows : RefT Words} (s : Stretch) → Stands sheet (store .now) number s
+    → rows .now ≡ part (store .now) (s .first) (s .first + s .count) → rows .ptr ≡ wordAt store (s .first) → HandsBack sheet store number rows (s .refusal)
+hands-back {store} s h w e =
+    record {
+      gives = record { words-are = w ∙ h .gives .words-are; number-is = h .gives .number-is };
+      stands = e ∙ ap (wordAt store) (h .first-is);
+    }
 
 module _ (sheet store : Words) (part : ℕ) where
   -- a refusal's number and no words

@@ -5,7 +5,7 @@ use sheet::Verdict;
 use sheet_plan::Plan;
 ghost use mathlib.Core.Path.{_≡_};
 ghost use mathlib.Core.Bool.{true};
-ghost use Prim.Native.Nat.{ℕ, _+_, _<_, _≤_};
+ghost use Prim.Native.Nat.{_+_, _<_, _≤_};
 ghost use lib.Dec.{T};
 ghost use lib.ListN.{length, set, take};
 ghost use Rattle.lists.specs.Totals.{one};
@@ -15,7 +15,7 @@ ghost use Rattle.rows.specs.Marks.{spared, isMarked, Numbers, Run, Marking};
 ghost use Rattle.meaning.specs.Limits.{mostTables};
 ghost use Rattle.store.specs.Tests.{absentZero};
 ghost use Rattle.store.specs.Parts.{countIn, rowsIn, soundIn, Within, Kept, Wrote};
-ghost use Rattle.store.specs.Shows.{HandsBack};
+ghost use Rattle.store.specs.Shows.{noStretch, Stands, HandsBack};
 ghost use Rattle.store.specs.Plans.{OfSheet, partOf, TableIs, SidesIs, SoundIs};
 
 // What fill and change answer: rows taken from the list and rows added to it, or the number of the refusal.
@@ -30,6 +30,13 @@ pub struct Part {
     pub start: usize,
     pub columns: usize,
     pub room: usize,
+}
+
+// Where the rows stand that a show call hands back: their first word, and how many words they are; and the refusal's number, 0 if there is none.
+pub struct Stretch {
+    pub refusal: u64,
+    pub first: usize,
+    pub count: usize,
 }
 
 // Where part `number` lies: a table's, or at n (tables) the list's.
@@ -137,37 +144,55 @@ pub fn is_sound(plan: Plan, store: &[u64]) -> bool
     part_sound(store, p, false)
 }
 
-// The rows of part `number`, a table's or at n the list's: the stretch of the store that holds them, empty for an unkept table.
-// A refusal's number goes into the lent word, 0 if there is none.
-pub fn show<'a>(sheet: &[u64], store: &'a [u64], number: u64, refusal: &mut u64) -> &'a [u64]
-    ensures { λ r. ⌜ HandsBack (now (sheet .entry)) (store .entry) number r (now (refusal .exit)) ⌝ }
+// A refusal's: no words, from the first on.
+fn no_stretch(refusal: u64) -> Stretch
+    ensures { λ s. ⌜ s ≡ noStretch refusal ⌝ }
+{
+    Stretch {
+        refusal: refusal,
+        first: 0,
+        count: 0,
+    }
+}
+
+// Where the rows of part `number` stand, a table's or at n the list's: none for an unkept table, and none from the first word on in a refusal.
+pub fn find_stretch(sheet: &[u64], store: &[u64], number: u64) -> Stretch
+    ensures { λ s. ⌜ Stands (now (sheet .entry)) (now (store .entry)) number s ⌝ }
 {
     let checked = sheet_plan::check(sheet);
     let v = checked.verdict;
     let plan = checked.plan;
     let Verdict::Good = v else {
-        *refusal = sheet::number_of(v);
-        return &store[..0];
+        return no_stretch(sheet::number_of(v));
     };
     if store.len() != plan.store {
-        *refusal = 4;
-        return &store[..0];
+        return no_stretch(4);
     }
     let n = plan.tables as u64;
     if n < number {
-        *refusal = 5;
-        return &store[..0];
+        return no_stretch(5);
     }
     if !is_sound(plan, store) {
-        *refusal = 7;
-        return &store[..0];
+        return no_stretch(7);
     }
-    *refusal = 0;
     let p = part_of(plan, number as usize);
     let slot = p.slot;
-    let from = p.start;
     let count = store[slot] as usize;
-    let to = from + count * p.columns;
+    Stretch {
+        refusal: 0,
+        first: p.start,
+        count: count * p.columns,
+    }
+}
+
+// The rows of part `number`: the stretch of the store that holds them. A refusal's number goes into the lent word, 0 if there is none.
+pub fn show<'a>(sheet: &[u64], store: &'a [u64], number: u64, refusal: &mut u64) -> &'a [u64]
+    ensures { λ r. ⌜ HandsBack (now (sheet .entry)) (store .entry) number r (now (refusal .exit)) ⌝ }
+{
+    let s = find_stretch(sheet, store, number);
+    *refusal = s.refusal;
+    let from = s.first;
+    let to = from + s.count;
     &store[from..to]
 }
 
@@ -202,7 +227,8 @@ pub fn mark_row(store: &[u64], p: Part, r: &[u64], numbers: &mut [u16], many: us
     requires { ⌜ Kept p (now store) ⌝ }
     requires { ⌜ length (now r) ≡ p .columns ⌝ }
     requires { ⌜ Run (countIn p (now store)) (now numbers) many ⌝ }
-    ensures { λ b. ⌜ Marking (now (r .entry)) (rowsIn p (now (store .entry))) (take many (now (numbers .entry))) (take (many + one b) (now (numbers .exit))) b ⌝ }
+    ensures { λ b. ⌜ Marking (now (r .entry)) (rowsIn p (now (store .entry)))
+        (take many (now (numbers .entry))) (take (many + one b) (now (numbers .exit))) b ⌝ }
 {
     let slot = p.slot;
     let from = p.start;

@@ -1,11 +1,14 @@
 -- `delete` meets its contract.
 -- Assumes nothing.
 use Rattle.list_part.proofs.Lists.{list-kept}
-use Rattle.change_taken.proofs.Lists.{marks-enough}
-use mathlib.Core.Path.{refl}
+use Prim.Native.Nat.{ℕ}
+use mathlib.Core.Path.{sym}
+use lib.ListN.{length-replicate}
+use lib.Seq.{length-take-le}
 use Rattle.change_laws.proofs.Halves.{ready-good, ready-ground, ready-list, ready-table, ready-tables, half-modelled}
-use Rattle.change_delete.proofs.Deleting.{deletes-contradicts-side, deletes-none, deletes-contradicts-list, deletes-done}
+use Rattle.change_delete.proofs.Deleting.{taken-few, taken-run, deletes-contradicts-side, deletes-none, deletes-contradicts-list, deletes-done}
 use borrow.Author.Needs.{needs}
+use native.Mathlib.Omega.{arith}
 use Rattle.change_delete.proofs.delete.Statement.{statement}
 use Rattle.change_delete.proofs.delete.Tie as tie
 
@@ -58,7 +61,7 @@ mark-ways-requires c κs =
     let at-part-of = c .before .before .before .before .before .before .before in
     let at-start = at-part-of .before .before .before .before .before .before .before .before .before .before .before .before .before in
     let pre = at-start .pre in
-    (ready-ground (pre .0), (pre .0 .sound, (ready-list (pre .0) _ (at-part-of .part-of .ensures), (pre .1, refl))))
+    (ready-ground (pre .0), (pre .0 .sound, (ready-list (pre .0) _ (at-part-of .part-of .ensures), (pre .1, length-replicate {A = ℕ} 4096 0))))
 
 enum-known-a : tie.Need-enum-known-a
 enum-known-a c = search needs
@@ -81,50 +84,60 @@ returns-3 c =
     deletes-contradicts-list (pre .0) (pre .1) _ (at-is-qualified .is-qualified .ensures) _ (at-old-row .old-row .ensures) (at-if1 .if1 .left)
     (at-if2 .if2 .left) _ _ (at-mark-ways .mark-ways .ensures) (c .enum-told .given .1)
 
+-- from the answer back to the marking, to the list's part and to the start
+abbrev marking : tie.After-a → tie.After-mark-ways
+marking c = c .before .before .before
+
+abbrev listing : tie.After-a → tie.After-part-of
+listing c = marking c .before .before .before .before .before .before .before .before
+
+abbrev start : tie.After-a → tie.Start
+start c = listing c .before .before .before .before .before .before .before .before .before .before .before .before .before
+
+array-share-prefix-marked : tie.Need-array-share-prefix-marked
+array-share-prefix-marked c =
+    let at-a = c .before .before in
+    let pre = start at-a .pre in
+    omega (
+      arith,
+      taken-few (pre .0) (pre .1) _ (ready-list (pre .0) _ (listing at-a .part-of .ensures)) _ _ (marking at-a .mark-ways .ensures) _ (at-a .a .given .1),
+      at-a .before .before .marked2 .given,
+    )
+
 slice-aggregate-take-marked : tie.Need-slice-aggregate-take-marked
-slice-aggregate-take-marked c = search needs
+slice-aggregate-take-marked c = sym (length-take-le _ _ (array-share-prefix-marked (c .before)))
 
 take-marked-requires : tie.Need-take-marked-requires
 take-marked-requires c κs =
-    let at-marks2 = c .before .before .before .before .before in
-    let at-mark-ways = at-marks2 .before in
-    let at-part-of = at-mark-ways .before .before .before .before .before .before .before .before in
-    let at-start = at-part-of .before .before .before .before .before .before .before .before .before .before .before .before .before in
-    let pre = at-start .pre in
-    let lies = ready-list (pre .0) _ (at-part-of .part-of .ensures) in (
+    let at-a = c .before .before .before in
+    let pre = start at-a .pre in
+    let lies = ready-list (pre .0) _ (listing at-a .part-of .ensures) in (
       list-kept _ (ready-good (pre .0)) _ (pre .0 .sound) _ lies,
-      marks-enough _ (ready-good (pre .0)) _ (pre .0 .sound) _ lies (at-mark-ways .mark-ways .last .1 .1 .1 .1 .1 .1 .1 .1 .1 .1 .0)
-          (at-marks2 .marks2 .given),
+      taken-run (pre .0) (pre .1) _ lies _ _ (marking at-a .mark-ways .ensures) _ (at-a .a .given .1),
     )
 
 take-side-requires : tie.Need-take-side-requires
 take-side-requires c κs =
-    let at-take-marked = c .before .before .before in
-    let at-part-of = at-take-marked .before .before .before .before .before .before .before .before .before .before .before .before .before .before .before in
-    let at-start = at-part-of .before .before .before .before .before .before .before .before .before .before .before .before .before in
-    let pre = at-start .pre in
-    let lies = ready-list (pre .0) _ (at-part-of .part-of .ensures) in
-    (pre .0 .planned, (ready-table (pre .0) (pre .1), (pre .1 .wide, half-modelled (pre .0) _ lies _ _ (at-take-marked .take-marked .ensures))))
+    let at-a = c .before .before .before .before .before .before .before in
+    let pre = start at-a .pre in
+    let lies = ready-list (pre .0) _ (listing at-a .part-of .ensures) in
+    (pre .0 .planned, (ready-table (pre .0) (pre .1), (pre .1 .wide, half-modelled (pre .0) _ lies _ _ (c .before .before .before .take-marked .ensures))))
 
 same-length-4 : tie.Need-same-length-4
 same-length-4 c = search needs
 
 returns-4 : tie.Need-returns-4
 returns-4 c =
-    let at-take-side = c .before .before in
-    let at-take-marked = at-take-side .before .before .before .before in
-    let at-a = at-take-marked .before .before .before .before in
-    let at-mark-ways = at-a .before .before .before in
-    let at-part-of = at-mark-ways .before .before .before .before .before .before .before .before in
-    let at-if2 = at-part-of .before in
+    let at-a = c .before .before .before .before .before .before .before .before .before .before in
+    let at-if2 = listing at-a .before in
     let at-if1 = at-if2 .before in
     let at-old-row = at-if1 .before in
     let at-is-qualified = at-old-row .before .before in
-    let at-start = at-is-qualified .before .before .before .before .before .before .before .before in
-    let pre = at-start .pre in
-    let lies = ready-list (pre .0) _ (at-part-of .part-of .ensures) in
+    let pre = start at-a .pre in
+    let lies = ready-list (pre .0) _ (listing at-a .part-of .ensures) in
     deletes-done (pre .0) (pre .1) _ (at-is-qualified .is-qualified .ensures) _ (at-old-row .old-row .ensures) (at-if1 .if1 .left) (at-if2 .if2 .left) _ _
-    (at-mark-ways .mark-ways .ensures) _ lies _ (at-take-marked .take-marked .ensures) _ (at-a .a .given .1) _ (at-take-side .take-side .ensures)
+    (marking at-a .mark-ways .ensures) _ lies _ (at-a .a .given .1) _
+    (c .before .before .before .before .before .before .take-marked .ensures) _ (c .before .before .take-side .ensures)
 
 pub delete-spec : {M : Type 1} → statement M
 delete-spec =
@@ -143,6 +156,7 @@ delete-spec =
     enum-told
     same-length-3
     returns-3
+    array-share-prefix-marked
     slice-aggregate-take-marked
     take-marked-requires
     take-side-requires

@@ -1,6 +1,7 @@
 -- `replace_rows` meets its contract.
 -- Assumes nothing.
 use Rattle.change_update.proofs.Replaced.{given-loose, given-settled}
+use Rattle.list_part.proofs.Rewrites.{none-stand}
 use borrow.Author.Needs.{needs}
 use native.Mathlib.Omega.{arith}
 use Rattle.change_update.proofs.replace_rows.Statement.{statement}
@@ -23,7 +24,10 @@ settle-rows-requires : tie.Need-settle-rows-requires
 settle-rows-requires c κs =
     let pre = c .before .before .before .before .before .before .before .before .before .before .pre in (
       given-loose _ _ _ _ _ _ (pre .1 .1 .0) (pre .1 .1 .1 .0) (pre .1 .1 .1 .1 .0) _ (c .before .before .before .give-rows .ensures),
-      omega (arith, pre .1 .1 .1 .1 .0, pre .0 .counts .listed-few),
+      (
+        omega (arith, pre .1 .1 .1 .1 .0, pre .0 .counts .listed-some),
+        (omega (arith, pre .1 .1 .1 .1 .0, pre .0 .counts .listed-few), none-stand _ _ _),
+      ),
     )
 
 same-length : tie.Need-same-length

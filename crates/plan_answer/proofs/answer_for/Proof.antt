@@ -14,7 +14,7 @@ slice-aggregate-first-parts c = search needs
 
 first-parts-requires : tie.Need-first-parts-requires
 first-parts-requires c κs =
-    let at-start = c .before .before .before .before .before .before in
+    let at-start = c .before .before .before .before .before .before .before .before in
     (at-start .pre .0, omega (arith, at-start .pre .1 .starts-length))
 
 slice-aggregate-first-parts-2 : tie.Need-slice-aggregate-first-parts-2
@@ -22,7 +22,7 @@ slice-aggregate-first-parts-2 c = search needs
 
 first-parts-requires-2 : tie.Need-first-parts-requires-2
 first-parts-requires-2 c κs =
-    let at-start = c .before .before .before .before .before .before .before .before in
+    let at-start = c .before .before .before .before .before .before .before .before .before .before in
     (at-start .pre .0, omega (arith, at-start .pre .1 .rooms-length))
 
 returns : tie.Need-returns

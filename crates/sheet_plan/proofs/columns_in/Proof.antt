@@ -20,12 +20,12 @@ returns c =
 mul-if2 : tie.Need-mul-if2
 mul-if2 c = search needs
 
-array-read-if2 : tie.Need-array-read-if2
-array-read-if2 c = search needs
+element-copy-out-if2 : tie.Need-element-copy-out-if2
+element-copy-out-if2 c = search needs
 
 returns-2 : tie.Need-returns-2
 returns-2 c =
-    let at-start = c .before .before .before .before in
+    let at-start = c .before .before .before .before .before in
     columns-none _ (at-start .pre .0) _ _ (at-start .pre .1 .0) (omega arith) (c .if2 .taken)
 
 marks-before-requires : tie.Need-marks-before-requires
@@ -33,7 +33,7 @@ marks-before-requires c κs = search needs
 
 returns-3 : tie.Need-returns-3
 returns-3 c =
-    let at-start = c .before .before .before .before .before in
+    let at-start = c .before .before .before .before .before .before in
     columns-shown _ (at-start .pre .0) _ _ (at-start .pre .1 .0) (omega arith) _ _ (at-start .pre .1 .1 .0) (c .before .if2 .left) (c .marks-before .ensures)
 
 pub columns-in-spec : {M : Type 1} → statement M
@@ -44,7 +44,7 @@ columns-in-spec =
     listed-requires
     returns
     mul-if2
-    array-read-if2
+    element-copy-out-if2
     returns-2
     marks-before-requires
     returns-3)

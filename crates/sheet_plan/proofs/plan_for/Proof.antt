@@ -1,5 +1,8 @@
 -- `plan_for` meets its contract: each array is the definition's.
 -- Assumes nothing.
+use mathlib.Core.Path.{refl}
+use native.Mathlib.Omega.{arith}
+use Rattle.sheet_plan.proofs.Shown.{shows-past}
 use Rattle.sheet_plan.proofs.Steps.{plan-made}
 use borrow.Author.Needs.{needs}
 use Rattle.sheet_plan.proofs.plan_for.Statement.{statement}
@@ -17,8 +20,14 @@ kept-marks-requires c κs = search needs
 shows-marks-requires : tie.Need-shows-marks-requires
 shows-marks-requires c κs = search needs
 
-marked-lists-requires : tie.Need-marked-lists-requires
-marked-lists-requires c κs = search needs
+lay-rows-requires : tie.Need-lay-rows-requires
+lay-rows-requires c κs =
+    let at-shows-marks = c .before .before .before in
+    let at-tables = at-shows-marks .before .before .before in
+    let at-start = at-tables .before .before in (
+      omega arith,
+      (shows-past _ (at-start .pre .joined .rules) _ _ (at-shows-marks .shows-marks .ensures) (at-tables .tables .ensures), (refl, refl)),
+    )
 
 columns-of-requires : tie.Need-columns-of-requires
 columns-of-requires c κs = search needs
@@ -41,23 +50,20 @@ array-read-store c = search needs
 order-of-requires : tie.Need-order-of-requires
 order-of-requires c κs = search needs
 
-places-of-requires : tie.Need-places-of-requires
-places-of-requires c κs = search needs
-
 returns : tie.Need-returns
 returns c =
-    let at-starts-of = c .before .before in
-    let at-rooms-of = at-starts-of .before in
+    let at-starts-of = c .before in
+    let at-rooms-of = at-starts-of .before .before .before in
     let at-columns-of = at-rooms-of .before in
-    let at-marked-lists = at-columns-of .before in
-    let at-shows-marks = at-marked-lists .before in
+    let at-lay-rows = at-columns-of .before .before .before in
+    let at-shows-marks = at-lay-rows .before .before .before .before in
     let at-kept-marks = at-shows-marks .before in
     let at-root-of = at-kept-marks .before in
     let at-tables = at-root-of .before in
     let at-start = at-tables .before .before in
     plan-made _ (at-start .pre .joined .rules) _ _ _ _ _ _ _ _ _ _ (at-tables .tables .ensures) (at-root-of .root-of .ensures)
-    (at-kept-marks .kept-marks .ensures) (at-shows-marks .shows-marks .ensures) (at-marked-lists .marked-lists .ensures) (at-columns-of .columns-of .ensures)
-    (at-rooms-of .rooms-of .ensures) (at-starts-of .starts-of .ensures) (c .before .order-of .ensures) (c .places-of .ensures)
+    (at-kept-marks .kept-marks .ensures) (at-shows-marks .shows-marks .ensures) (at-lay-rows .lay-rows .ensures .0) (at-columns-of .columns-of .ensures)
+    (at-rooms-of .rooms-of .ensures) (at-starts-of .starts-of .ensures) (c .order-of .ensures) (at-lay-rows .lay-rows .ensures .1)
 
 pub plan-for-spec : {M : Type 1} → statement M
 plan-for-spec =
@@ -67,7 +73,7 @@ plan-for-spec =
     root-of-requires
     kept-marks-requires
     shows-marks-requires
-    marked-lists-requires
+    lay-rows-requires
     columns-of-requires
     rooms-of-requires
     starts-of-requires
@@ -75,5 +81,4 @@ plan-for-spec =
     mul-store
     array-read-store
     order-of-requires
-    places-of-requires
     returns)

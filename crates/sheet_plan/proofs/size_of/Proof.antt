@@ -9,26 +9,30 @@ use Rattle.sheet_plan.proofs.size_of.Tie as tie
 mul-result : tie.Need-mul-result
 mul-result c = search needs
 
-array-read-result : tie.Need-array-read-result
-array-read-result c = search needs
+element-copy-out-result : tie.Need-element-copy-out-result
+element-copy-out-result c = search needs
 
 mul-result-2 : tie.Need-mul-result-2
 mul-result-2 c = search needs
 
-array-read-result-2 : tie.Need-array-read-result-2
-array-read-result-2 c = search needs
+element-copy-out-result-2 : tie.Need-element-copy-out-result-2
+element-copy-out-result-2 c = search needs
 
 mul-result-3 : tie.Need-mul-result-3
-mul-result-3 c = let e = size-read _ (c .pre .0) _ _ _ (c .pre .1 .0) (c .pre .1 .1 .0) (c .pre .1 .1 .1) in
-    let l = size-small _ (c .pre .0) _ (c .pre .1 .1 .1) in
+mul-result-3 c =
+    let pre = c .before .before .pre in
+    let e = size-read _ (pre .0) _ _ _ (pre .1 .0) (pre .1 .1 .0) (pre .1 .1 .1) in
+    let l = size-small _ (pre .0) _ (pre .1 .1 .1) in
     omega arith
 
 returns : tie.Need-returns
-returns c = let e = size-read _ (c .pre .0) _ _ _ (c .pre .1 .0) (c .pre .1 .1 .0) (c .pre .1 .1 .1) in
-    let l = size-small _ (c .pre .0) _ (c .pre .1 .1 .1) in
+returns c =
+    let pre = c .before .before .pre in
+    let e = size-read _ (pre .0) _ _ _ (pre .1 .0) (pre .1 .1 .0) (pre .1 .1 .1) in
+    let l = size-small _ (pre .0) _ (pre .1 .1 .1) in
     (e, omega arith)
 
 pub size-of-spec : {M : Type 1} → statement M
 size-of-spec =
     tie.close
-    (tie.spec mul-result array-read-result mul-result-2 array-read-result-2 mul-result-3 returns)
+    (tie.spec mul-result element-copy-out-result mul-result-2 element-copy-out-result-2 mul-result-3 returns)

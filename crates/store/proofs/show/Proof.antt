@@ -1,112 +1,20 @@
--- `store::show` meets its contract: one law for each way through it.
+-- `store::show` meets its contract: what it hands back is the stretch that was found.
 -- Assumes nothing.
-use borrow.Author.Tests.{not-true, not-false}
-use Rattle.lists.specs.Parts.{part}
 use mathlib.Core.Path.{refl}
-use Rattle.store.proofs.Plans.{few}
-use Rattle.store.proofs.Checks.{check-of, check-some}
-use Rattle.store.proofs.Shows.{none-back, rows-back}
-use Rattle.store.proofs.Showing.{ShownPart, stretch-ends, show-refused, show-length, show-number, show-unsound, show-part}
+use Rattle.lists.specs.Parts.{part}
+use Rattle.store.proofs.Shows.{hands-back}
 use borrow.Author.Needs.{needs}
-use native.Mathlib.Omega.{arith}
 use Rattle.store.proofs.show.Statement.{statement}
 use Rattle.store.proofs.show.Tie as tie
 
-check-requires : tie.Need-check-requires
-check-requires c κs = search needs
-
-enum-told : tie.Need-enum-told
-enum-told c = search needs
-
-enum-told-2 : tie.Need-enum-told-2
-enum-told-2 c = search needs
-
-number-of-requires : tie.Need-number-of-requires
-number-of-requires c κs = search needs
-
-slice-aggregate-result : tie.Need-slice-aggregate-result
-slice-aggregate-result c = search needs
-
-returns : tie.Need-returns
-returns c =
-    let at-number = c .before in
-    let at-verdict = at-number .before in
-    let checked = at-verdict .before .before .before .check .ensures in
-    let told = at-verdict .enum-told2 .given .1 in
-    none-back (check-some _ _ checked _ _ told (at-number .number-of .ensures)) refl (show-refused _ _ _ _ checked _ _ told (at-number .number-of .ensures))
-
-slice-aggregate-result-2 : tie.Need-slice-aggregate-result-2
-slice-aggregate-result-2 c = search needs
-
-returns-2 : tie.Need-returns-2
-returns-2 c =
-    let at-length = c .before in
-    let at-good = at-length .before .before in
-    let checked = at-good .before .before .before .check .ensures in
-    none-back (λ q. omega arith) refl (show-length _ _ _ _ checked (at-good .enum-told .given .1) (at-length .if1 .taken))
-
-slice-aggregate-result-3 : tie.Need-slice-aggregate-result-3
-slice-aggregate-result-3 c = search needs
-
-returns-3 : tie.Need-returns-3
-returns-3 c =
-    let at-number = c .before in
-    let at-length = at-number .before in
-    let at-good = at-length .before .before in
-    none-back (λ q. omega arith) refl
-    (show-number _ _ _ _ (at-good .before .before .before .check .ensures) (at-good .enum-told .given .1) (at-length .if1 .left) (at-number .if2 .taken))
-
-is-sound-requires : tie.Need-is-sound-requires
-is-sound-requires c κs =
-    let at-good = c .before .before .before in
-    check-of _ _ (at-good .before .before .before .check .ensures) (at-good .enum-told .given .1)
-
-slice-aggregate-result-4 : tie.Need-slice-aggregate-result-4
-slice-aggregate-result-4 c = search needs
-
-returns-4 : tie.Need-returns-4
-returns-4 c =
-    let at-sound = c .before in
-    let at-number = at-sound .before .before in
-    let at-length = at-number .before in
-    let at-good = at-length .before .before in
-    none-back (λ q. omega arith) refl
-    (show-unsound _ _ _ _ (at-good .before .before .before .check .ensures) (at-good .enum-told .given .1) (at-length .if1 .left) (at-number .if2 .left) _
-    (at-sound .before .is-sound .ensures) (not-true _ (at-sound .if3 .taken)))
-
-part-of-requires : tie.Need-part-of-requires
-part-of-requires c κs =
-    let at-good = c .before .before .before .before .before in
-    (c .before .before .if2 .left, few _ (check-of _ _ (at-good .before .before .before .check .ensures) (at-good .enum-told .given .1)))
-
--- the part that is shown
-shown : (c : tie.After-part-of)
-    → let given = c .before .before .before .before .before .before .before .before .before .before .before .before .args in
-    ShownPart (given .sheet .now) (given .store .now) (given .number) (c .part-of .result)
-shown c =
-    let at-sound = c .before in
-    let at-number = at-sound .before .before in
-    let at-length = at-number .before in
-    let at-good = at-length .before .before in
-    show-part _ _ _ _ (at-good .before .before .before .check .ensures) (at-good .enum-told .given .1) (at-length .if1 .left) (at-number .if2 .left) _
-    (at-sound .before .is-sound .ensures) (not-false _ (at-sound .if3 .left)) _ (c .part-of .ensures)
-
-mul-count : tie.Need-mul-count
-mul-count c = omega (arith, shown c .kept .within .counted)
-
-shared-slice-read-count : tie.Need-shared-slice-read-count
-shared-slice-read-count c =
-    let k = shown (c .before) .kept .within in
-    omega (arith, k .counted, k .behind, k .ends)
-
-mul-to : tie.Need-mul-to
-mul-to c = let k = shown (c .before .before) .kept in omega (arith, stretch-ends _ _ k, k .within .ends)
+find-stretch-requires : tie.Need-find-stretch-requires
+find-stretch-requires c κs = search needs
 
 add-to : tie.Need-add-to
-add-to c = let k = shown (c .before .before) .kept in omega (arith, stretch-ends _ _ k, k .within .ends)
+add-to c = search needs
 
 mul-result : tie.Need-mul-result
-mul-result c = let k = shown (c .before .before) .kept in omega (arith, stretch-ends _ _ k, k .within .ends)
+mul-result c = search needs
 
 sub-result : tie.Need-sub-result
 sub-result c = search needs
@@ -115,38 +23,20 @@ part-result-start : tie.Need-part-result-start
 part-result-start c = search needs
 
 part-result-end : tie.Need-part-result-end
-part-result-end c = let k = shown (c .before .before) .kept in omega (arith, stretch-ends _ _ k, k .within .ends)
+part-result-end c = search needs
 
-returns-5 : tie.Need-returns-5
+returns : tie.Need-returns
 unfolding part
-returns-5 c =
-    let x = shown (c .before .before .before) in
-    rows-back (x .place) refl (x .rows)
+returns c = hands-back _ (c .before .before .find-stretch .ensures) refl refl
 
 pub show-spec : {M : Type 1} → statement M
 show-spec =
     tie.close
     (tie.spec
-    check-requires
-    enum-told
-    enum-told-2
-    number-of-requires
-    slice-aggregate-result
-    returns
-    slice-aggregate-result-2
-    returns-2
-    slice-aggregate-result-3
-    returns-3
-    is-sound-requires
-    slice-aggregate-result-4
-    returns-4
-    part-of-requires
-    mul-count
-    shared-slice-read-count
-    mul-to
+    find-stretch-requires
     add-to
     mul-result
     sub-result
     part-result-start
     part-result-end
-    returns-5)
+    returns)

@@ -1,77 +1,58 @@
--- `give_marked` meets its contract. The loop's invariant: of the rows before i the marked ones are given, and the rest is as it was.
+-- `give_marked` meets its contract. The loop's invariant: the rows at the first j numbers are given, and the rest is as it was.
 -- Assumes nothing.
-use Prim.Native.Nat.{_≤_, _+_, _-_, _*_}
-use mathlib.Core.Path.{_≡_, refl, _∙_}
+use Prim.Native.Nat.{_-_, _≤_}
 use lib.ListN.{length}
-use Rattle.rows.proofs.Cut.{row-fits}
-use Rattle.meaning.specs.Sheet.{listedCount}
-use Rattle.list_part.specs.Gives.{given}
-use Rattle.list_part.proofs.Given.{is-marked, not-marked, given-start, given-stay, given-more}
+use Rattle.list_part.proofs.Given.{Giving, giving-start, row-inside, giving-next, giving-end}
+use mathlib.Core.Path.{refl}
 use borrow.Author.Needs.{needs}
 use native.Mathlib.Omega.{arith}
 use Rattle.list_part.proofs.columns.give_marked.Statement.{statement}
 use Rattle.list_part.proofs.columns.give_marked.Tie as tie
 
 abbrev Inv-loop : tie.InvT-loop
-Inv-loop sheet s₀ count marks t r i₀ s i = (i ≤ count) × (length s ≡ length s₀) × (s ≡ given sheet t r marks i s₀)
+Inv-loop sheet s₀ count numbers t r j₀ s j = (j ≤ length numbers) × Giving sheet t r numbers count s₀ j s
 
 abbrev μ-loop : tie.MeasureT-loop
-μ-loop sheet s₀ count marks t r i₀ s i = count - i
-
--- row i is one of the rows
-here : (c : tie.In-loop Inv-loop μ-loop)
-    → let start = c .before .before .before .before .before .before in
-    c .before .loop .i * listedCount (start .args .sheet .now) + listedCount (start .args .sheet .now) ≤ length (start .args .s .now)
-here c =
-    let start = c .before .before .before .before .before .before in
-    row-fits (listedCount (start .args .sheet .now)) (start .args .count) (c .before .loop .i) _ (c .loop-test .taken) (start .pre .1 .1 .0)
+μ-loop sheet s₀ count numbers t r j₀ s j = length numbers - j
 
 loop-holds : tie.Need-loop-holds Inv-loop μ-loop
-loop-holds c = (search needs, refl, given-start _ _ _ _ _)
+loop-holds c = (omega arith, giving-start _ _ _ _ _ _)
 
-add-i : tie.Need-add-i Inv-loop μ-loop
-add-i c = search needs
+mul-i : tie.Need-mul-i Inv-loop μ-loop
+mul-i c = search needs
 
-mul-if1 : tie.Need-mul-if1 Inv-loop μ-loop
-mul-if1 c = search needs
+shared-slice-read-i : tie.Need-shared-slice-read-i Inv-loop μ-loop
+shared-slice-read-i c = search needs
 
-shared-slice-read-if1 : tie.Need-shared-slice-read-if1 Inv-loop μ-loop
-shared-slice-read-if1 c = search needs
+cast-i : tie.Need-cast-i Inv-loop μ-loop
+cast-i c = omega (arith, c .shared-slice-known4 .given (c .before .before .loop .j))
 
 give-row-requires : tie.Need-give-row-requires Inv-loop μ-loop
 give-row-requires c κs =
-    let turn = c .before .before .before in
-    let start = turn .before .before .before .before .before .before in
-    (start .pre .0, (start .pre .1 .0, omega (arith, here turn, turn .before .loop .inv .1)))
+    let test = c .before .before in
+    let pre = test .before .before .before .before .before .before .pre in
+    (pre .0, (pre .1 .0, row-inside _ _ _ _ _ _ (pre .1 .1 .0) (pre .1 .1 .1) _ (test .loop-test .taken) _ refl _ (test .before .loop .inv .1)))
+
+add-j : tie.Need-add-j Inv-loop μ-loop
+add-j c = search needs
 
 loop-less : tie.Need-loop-less Inv-loop μ-loop
 loop-less c = search needs
 
 loop-again : tie.Need-loop-again Inv-loop μ-loop
 loop-again c =
-    let call = c .before .before in
-    let turn = call .before .before .before .before in
-    let inv = turn .before .loop .inv in
-    let marked = is-marked _ _ (call .before .before .if1 .taken) in
-    (omega arith, call .give-row .kept .1 .0 ∙ inv .1, given-more _ _ _ _ _ _ (here turn) _ (inv .2) _ marked (call .give-row .ensures))
-
-loop-less-2 : tie.Need-loop-less-2 Inv-loop μ-loop
-loop-less-2 c = search needs
-
-loop-again-2 : tie.Need-loop-again-2 Inv-loop μ-loop
-loop-again-2 c =
-    let turn = c .before .before in
-    let inv = turn .before .loop .inv in
-    (omega arith, inv .1, given-stay _ _ _ _ _ _ (here turn) _ (inv .2) (not-marked _ _ (c .if1 .left)))
+    let gave = c .before .before in
+    let test = gave .before .before .before in
+    let pre = test .before .before .before .before .before .before .pre in (
+      omega (arith, test .loop-test .taken),
+      giving-next _ _ _ _ _ _ (pre .1 .1 .0) (pre .1 .1 .1) _ (test .loop-test .taken) _ refl _ (test .before .loop .inv .1) _ (gave .give-row .ensures),
+    )
 
 same-length : tie.Need-same-length Inv-loop μ-loop
 same-length c = search needs
 
 returns : tie.Need-returns Inv-loop μ-loop
-returns c =
-    let end = c .before .loop in
-    let e : end .i ≡ c .before .before .before .before .before .before .args .count = omega arith in
-    end .inv .2 ∙ rw e
+returns c = giving-end _ _ _ _ _ _ _ _ (c .loop-test .left) (c .before .loop .inv .1)
 
 pub give-marked-spec : {M : Type 1} → statement M
 give-marked-spec =
@@ -80,13 +61,12 @@ give-marked-spec =
     Inv-loop
     μ-loop
     loop-holds
-    add-i
-    mul-if1
-    shared-slice-read-if1
+    mul-i
+    shared-slice-read-i
+    cast-i
     give-row-requires
+    add-j
     loop-less
     loop-again
-    loop-less-2
-    loop-again-2
     same-length
     returns)

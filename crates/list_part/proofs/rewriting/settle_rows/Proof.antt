@@ -2,6 +2,7 @@
 -- Assumes nothing.
 use Rattle.lists.specs.Parts.{part}
 use Rattle.store.specs.Parts.{wordsIn}
+use Rattle.list_part.specs.Loose.{looseRows}
 use Rattle.list_part.proofs.Rewrites.{rows-room, settled}
 use borrow.Author.Needs.{needs}
 use Rattle.list_part.proofs.rewriting.settle_rows.Statement.{statement}
@@ -26,10 +27,11 @@ part-settle-end : tie.Need-part-settle-end
 part-settle-end c = search needs
 
 settle-requires : tie.Need-settle-requires
-unfolding wordsIn part
+unfolding wordsIn part looseRows
 settle-requires c κs =
     let pre = c .before .before .before .pre in
-    (rows-room _ _ (pre .0 .within) _ (pre .0 .fits), pre .1)
+    let stand = pre .1 .1 .1 in
+    (pre .1 .0, (pre .1 .1 .0, (rows-room _ _ (pre .0 .within) _ (pre .0 .fits), (stand .fits, stand .up))))
 
 mul-store : tie.Need-mul-store
 mul-store c = search needs
