@@ -17,7 +17,7 @@ use Rattle.meaning.specs.Change.{qualifies, canTake, rowsFound, withColumns, fo
 use Rattle.effects.specs.Applied.{replacedRows}
 use Rattle.effects.proofs.Marking.{replaced-walks, shows-walks}
 use Rattle.sheet_plan.specs.declared.Plan.{Plan}
-use Rattle.walk.specs.Climbing.{ByKey}
+use Rattle.walk.specs.Ladders.{ByKey}
 use Rattle.store.proofs.Plans.{marked, unmarked}
 use Rattle.change_laws.specs.Ready.{Ready}
 use Rattle.change_laws.proofs.Halves.{ready-good}

@@ -4,7 +4,6 @@ pub mod Grounds
 pub mod Treks
 pub mod Entries
 pub mod Tests
-pub mod Climbing
 pub mod Laddering
 pub mod Trails
 pub mod Routes

@@ -2,4 +2,4 @@ pub mod Routes
 pub mod Grounds
 pub mod Trails
 pub mod Tests
-pub mod Climbing
+pub mod Ladders
