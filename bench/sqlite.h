@@ -1,0 +1,20 @@
+// The desk list kept by SQLite in memory: what a user would pick instead.
+#ifndef ORATJOLET_SQLITE_H
+#define ORATJOLET_SQLITE_H
+
+#include "desk.h"
+
+// Opens a database with these base tables and the list; 0 if all is well, as with the others.
+int sqlite_open(const uint64_t *base);
+
+// Carries out the day's changes, each its own transaction or all in one.
+int sqlite_day(const desk_change *day, int one_transaction);
+
+// Holds its list to these rows, which show loan, copy, shelf, desk and, if it is listed, borrower: 0 if they are the same.
+int sqlite_compare(const uint64_t *rows, size_t count, size_t columns);
+
+void sqlite_close(void);
+
+const char *sqlite_version(void);
+
+#endif
