@@ -262,7 +262,7 @@ static int rooms_grow(void)
     return bad;
 }
 
-// A desk day: the changes of a day one by one, on a store nine tenths full
+// A desk day: the changes of a day one by one, on a store nine tenths full.
 
 static desk_change day[DAY];
 
@@ -286,62 +286,90 @@ static int hold_day(const word *sheet, size_t length, word *taken, word *added)
     return 0;
 }
 
-static double least_day(plain_answer (*run)(const call *, word *), const word *sheet, size_t length, int times)
+// Each change's least time of some days
+static double day_took[DAY];
+
+static void start_days(void)
+{
+    for (int i = 0; i < DAY; i++)
+        day_took[i] = 1e18;
+}
+
+static void took(int i, double time)
+{
+    day_took[i] = time < day_took[i] ? time : day_took[i];
+}
+
+static double whole_day(void)
+{
+    double sum = 0;
+    for (int i = 0; i < DAY; i++)
+        sum += day_took[i];
+    return sum;
+}
+
+static double least_day(plain_answer (*run)(const call *, word *), const word *sheet, size_t length)
 {
     call c = {.sheet = sheet, .sheet_length = length};
-    double best = 1e18;
-    for (int i = 0; i < times; i++) {
+    start_days();
+    for (int times = 0; times < 10; times++) {
         make_fresh(store);
-        double from = now();
-        for (int j = 0; j < DAY; j++) {
-            c.change = day + j;
+        for (int i = 0; i < DAY; i++) {
+            c.change = day + i;
+            double from = now();
             run(&c, store);
+            took(i, now() - from);
         }
-        double took = now() - from;
-        best = took < best ? took : best;
     }
-    return best;
+    return whole_day();
 }
 
 #ifdef WITH_SQLITE
-// The least time of some days, each on a database of its own; a list that isn't the store's makes it 0
-static double sqlite_least(int one_transaction, const word *rows, size_t count, size_t columns)
+static int sqlite_day(int one_transaction, const word *rows, size_t count, size_t columns)
 {
-    double best = 1e18;
-    for (int i = 0; i < 5; i++) {
-        if (sqlite_open(base))
-            return 0;
+    int bad = sqlite_open(base) || (one_transaction && sqlite_begin());
+    for (int i = 0; i < DAY && !bad; i++) {
         double from = now();
-        int bad = sqlite_day(day, one_transaction);
-        double took = now() - from;
-        best = took < best ? took : best;
-        if (bad || sqlite_compare(rows, count, columns))
-            return 0;
-        sqlite_close();
+        bad = sqlite_change(day + i) || (one_transaction && i == DAY - 1 && sqlite_commit());
+        took(i, now() - from);
     }
-    return best;
+    bad = bad || sqlite_compare(rows, count, columns);
+    sqlite_close();
+    return bad;
+}
+
+// 0 if SQLite fails, or if its list in the evening isn't these rows
+static double least_sqlite_day(int one_transaction, const word *rows, size_t count, size_t columns)
+{
+    start_days();
+    for (int times = 0; times < 10; times++)
+        if (sqlite_day(one_transaction, rows, count, columns))
+            return 0;
+    return whole_day();
 }
 
 // `store` is as it is in the evening
-static int against_sqlite(const word *sheet, size_t length, double proved_took, size_t columns)
+static int against_sqlite(const word *sheet, size_t length, double p, size_t columns)
 {
     word first, words;
     if (oratjolet_show(sheet, length, store, store_length, 4, &first, &words) != 0)
         return 1;
-    double each = sqlite_least(0, store + first, words / columns, columns), all = sqlite_least(1, store + first, words / columns, columns);
+    size_t count = words / columns;
+    double each = least_sqlite_day(0, store + first, count, columns), all = least_sqlite_day(1, store + first, count, columns);
     if (each == 0 || all == 0) {
-        printf("SQLite's list is not the store's, or SQLite failed\n");
+        printf("SQLite failed, or its list isn't the store's\n");
         return 1;
     }
-    printf("SQLite %-21s %9.1f us a change one by one, %.2f x proved; %.1f us in one transaction, %.2f x proved; the lists of %llu rows agree\n",
-           sqlite_version(), each / DAY / 1e3, each / proved_took, all / DAY / 1e3, all / proved_took, (printed)(words / columns));
+    printf("%-28s %9.1f us a change; proved is %.2f x SQLite\n", "SQLite, one by one", each / DAY / 1e3, p / each);
+    printf("%-28s %9.1f us a change; proved is %.2f x SQLite\n", "SQLite, one transaction", all / DAY / 1e3, p / all);
+    printf("SQLite %s: its list and the store's, %llu rows, agree in the evening\n", sqlite_version(), (printed)count);
     return 0;
 }
 #else
-static int against_sqlite(const word *sheet, size_t length, double proved_took, size_t columns)
+static int against_sqlite(const word *sheet, size_t length, double p, size_t columns)
 {
-    (void)sheet, (void)length, (void)proved_took, (void)columns;
-    printf("without SQLite: libsqlite3-dev is not there\n");
+    (void)sheet, (void)length, (void)p, (void)columns;
+    printf("without SQLite, which is not there\n");
     return 0;
 }
 #endif
@@ -356,7 +384,7 @@ static int desk_days(void)
         desk_day(base, day);
         if (hold_day(sheet, length, &taken, &added))
             return 1;
-        double p = least_day(proved, sheet, length, 10), q = least_day(plain, sheet, length, 10), floor = pass(200);
+        double p = least_day(proved, sheet, length), q = least_day(plain, sheet, length), floor = pass(200);
         printf("-- a desk day, %d changes one by one from 3686 rows in each%s (taken %llu, added %llu)\n", DAY, kept ? ", loans kept" : "", (printed)taken,
                (printed)added);
         printf("%-28s %9.1f us a change  %6.2f x plain C  %8.1f x one pass\n", "proved", p / DAY / 1e3, p / q, p / DAY / floor);

@@ -111,21 +111,23 @@ int sqlite_open(const uint64_t *base)
     return run("ANALYZE") || prepare_changes();
 }
 
-static int change(const desk_change *c)
+int sqlite_begin(void)
+{
+    return run("BEGIN");
+}
+
+int sqlite_commit(void)
+{
+    return run("COMMIT");
+}
+
+int sqlite_change(const desk_change *c)
 {
     if (c->kind == ORATJOLET_INSERT)
         return finish(insert_into[c->table], c->new_row, desk_width(c->table));
     if (c->kind == ORATJOLET_DELETE)
         return finish(delete_from[c->table], c->old_row, 1);
     return finish(update_of[c->table], c->new_row, desk_width(c->table));
-}
-
-int sqlite_day(const desk_change *day, int one_transaction)
-{
-    int bad = one_transaction ? run("BEGIN") : 0;
-    for (int i = 0; i < DAY; i++)
-        bad |= change(day + i);
-    return bad | (one_transaction ? run("COMMIT") : 0);
 }
 
 int sqlite_compare(const uint64_t *rows, size_t count, size_t columns)

@@ -7,8 +7,10 @@
 // Opens a database with these base tables and the list; 0 if all is well, as with the others.
 int sqlite_open(const uint64_t *base);
 
-// Carries out the day's changes, each its own transaction or all in one.
-int sqlite_day(const desk_change *day, int one_transaction);
+// Carries out a change: its own transaction, or part of one that is begun and committed.
+int sqlite_change(const desk_change *change);
+int sqlite_begin(void);
+int sqlite_commit(void);
 
 // Holds its list to these rows, which show loan, copy, shelf, desk and, if it is listed, borrower: 0 if they are the same.
 int sqlite_compare(const uint64_t *rows, size_t count, size_t columns);
