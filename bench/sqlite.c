@@ -15,8 +15,6 @@ static const char *tables =
     "CREATE TABLE title (number INTEGER PRIMARY KEY, category INTEGER NOT NULL, shelf INTEGER NOT NULL);"
     "CREATE TABLE borrower (barcode INTEGER PRIMARY KEY, grp INTEGER NOT NULL, desk INTEGER NOT NULL);"
     "CREATE TABLE list (loan INTEGER PRIMARY KEY, copy INTEGER NOT NULL, shelf INTEGER NOT NULL, desk INTEGER NOT NULL, borrower INTEGER NOT NULL);"
-    "CREATE INDEX loan_copy ON loan (copy);"
-    "CREATE INDEX loan_borrower ON loan (borrower);"
     "CREATE INDEX copy_title ON copy (title);"
     "CREATE INDEX list_copy ON list (copy);"
     "CREATE INDEX list_borrower ON list (borrower);";
@@ -29,17 +27,22 @@ static const char *tables =
 // Tied columns never change, so an update changes at most a shelf or a desk
 static const char *triggers =
     "CREATE TRIGGER loan_in AFTER INSERT ON loan BEGIN " LIST "AND loan.number = NEW.number; END;"
-    "CREATE TRIGGER copy_in AFTER INSERT ON copy BEGIN " LIST "AND copy.barcode = NEW.barcode; END;"
-    "CREATE TRIGGER title_in AFTER INSERT ON title BEGIN " LIST "AND title.number = NEW.number; END;"
-    "CREATE TRIGGER borrower_in AFTER INSERT ON borrower BEGIN " LIST "AND borrower.barcode = NEW.barcode; END;"
     "CREATE TRIGGER loan_out AFTER DELETE ON loan BEGIN DELETE FROM list WHERE loan = OLD.number; END;"
-    "CREATE TRIGGER copy_out AFTER DELETE ON copy BEGIN DELETE FROM list WHERE copy = OLD.barcode; END;"
-    "CREATE TRIGGER title_out AFTER DELETE ON title BEGIN DELETE FROM list WHERE copy IN (SELECT barcode FROM copy WHERE title = OLD.number); END;"
-    "CREATE TRIGGER borrower_out AFTER DELETE ON borrower BEGIN DELETE FROM list WHERE borrower = OLD.barcode; END;"
     "CREATE TRIGGER title_moved AFTER UPDATE OF shelf ON title WHEN NEW.shelf <> OLD.shelf BEGIN "
     "UPDATE list SET shelf = NEW.shelf WHERE copy IN (SELECT barcode FROM copy WHERE title = NEW.number); END;"
     "CREATE TRIGGER borrower_moved AFTER UPDATE OF desk ON borrower WHEN NEW.desk <> OLD.desk BEGIN "
     "UPDATE list SET desk = NEW.desk WHERE borrower = NEW.barcode; END;";
+
+// Who does not trust that a parent comes before its children and goes after them needs these too
+static const char *triggers_on_parents =
+    "CREATE INDEX loan_copy ON loan (copy);"
+    "CREATE INDEX loan_borrower ON loan (borrower);"
+    "CREATE TRIGGER copy_in AFTER INSERT ON copy BEGIN " LIST "AND copy.barcode = NEW.barcode; END;"
+    "CREATE TRIGGER title_in AFTER INSERT ON title BEGIN " LIST "AND title.number = NEW.number; END;"
+    "CREATE TRIGGER borrower_in AFTER INSERT ON borrower BEGIN " LIST "AND borrower.barcode = NEW.barcode; END;"
+    "CREATE TRIGGER copy_out AFTER DELETE ON copy BEGIN DELETE FROM list WHERE copy = OLD.barcode; END;"
+    "CREATE TRIGGER title_out AFTER DELETE ON title BEGIN DELETE FROM list WHERE copy IN (SELECT barcode FROM copy WHERE title = OLD.number); END;"
+    "CREATE TRIGGER borrower_out AFTER DELETE ON borrower BEGIN DELETE FROM list WHERE borrower = OLD.barcode; END;";
 
 static const char *inserts[] = {"INSERT INTO loan VALUES (?1, ?2, ?3, ?4)",
                                 "INSERT INTO copy VALUES (?1, ?2, ?3)",
@@ -100,11 +103,13 @@ static void drop_changes(void)
     }
 }
 
-int sqlite_open(const uint64_t *base)
+int sqlite_open(const uint64_t *base, int trusting)
 {
     if (sqlite3_open_v2(":memory:", &desk, SQLITE_OPEN_READWRITE | SQLITE_OPEN_CREATE | SQLITE_OPEN_NOMUTEX, NULL) != SQLITE_OK)
         return 1;
     if (run(settings) || run(tables) || prepare_changes() || run("BEGIN") || put_tables(base) || run(LIST) || run(triggers) || run("COMMIT"))
+        return 1;
+    if (!trusting && run(triggers_on_parents))
         return 1;
     // The statements are prepared again now that there are triggers, so that the day doesn't begin with that
     drop_changes();

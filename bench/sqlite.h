@@ -4,8 +4,9 @@
 
 #include "desk.h"
 
-// Opens a database with these base tables and the list; 0 if all is well, as with the others.
-int sqlite_open(const uint64_t *base);
+// Opens a database with these base tables and the list; 0 if all is well, as with the others. One that trusts the feed to keep the sheet's promises
+// has no triggers on parents that come or go.
+int sqlite_open(const uint64_t *base, int trusting);
 
 // Carries out a change: its own transaction, or part of one that is begun and committed.
 int sqlite_change(const desk_change *change);
