@@ -148,9 +148,9 @@ static int fill_fresh(const word *sheet, size_t length, size_t base_length)
     return oratjolet_fill(sheet, length, base, base_length, fresh, store_length, &taken, &added) != 0;
 }
 
-static int fill_desk(const word *sheet, size_t length, word count, int one)
+static int fill_desk(const word *sheet, size_t length, word count, word alike)
 {
-    return fill_fresh(sheet, length, desk_tables(base, count, 0, one));
+    return fill_fresh(sheet, length, desk_tables(base, count, 0, alike));
 }
 
 static int one_change(const char *name, const word *sheet, size_t length, word kind, word table, const word *old_row, const word *new_row, size_t width)
@@ -213,32 +213,47 @@ static void plans_and_shows(const word *sheet, size_t length)
 
 static int few_rows_at_stake(void)
 {
-    static const word full[] = {410, 3686};
+    static const struct {
+        const char *name;
+        word count;
+        int with;
+    } desks[] = {{"-- desk, rooms of 4,096, 410 rows in each", 410, 0},
+                 {"-- desk, rooms of 4,096, 3686 rows in each", 3686, 0},
+                 {"-- the same with loans kept (borrower's barcode unlisted), 3686 rows in each", 3686, KEPT},
+                 {"-- the same with the shelf listed first, 3686 rows in each: list rows move when titles do", 3686, BY_SHELF}};
     word sheet[160];
     int bad = 0;
-    size_t length = desk_sheet(sheet, 4096, 0, 0);
-    for (int f = 0; f < 2; f++) {
-        printf("-- desk, rooms of 4,096, %llu rows in each\n", (printed)full[f]);
-        if (fill_desk(sheet, length, full[f], 0))
+    for (size_t k = 0; k < sizeof desks / sizeof *desks; k++) {
+        size_t length = desk_sheet(sheet, 4096, desks[k].with);
+        printf("%s\n", desks[k].name);
+        if (fill_desk(sheet, length, desks[k].count, 0))
             return 1;
-        bad |= changes(sheet, length, full[f]);
-        plans_and_shows(sheet, length);
+        bad |= changes(sheet, length, desks[k].count);
+        if (desks[k].with == 0)
+            plans_and_shows(sheet, length);
     }
-    printf("-- the same with loans kept (borrower's barcode unlisted), 3686 rows in each\n");
-    length = desk_sheet(sheet, 4096, 0, 1);
-    return fill_desk(sheet, length, 3686, 0) || changes(sheet, length, 3686) || bad;
+    return bad;
 }
 
 static int many_rows_at_stake(void)
 {
+    static const struct {
+        const char *name;
+        word alike;
+        int with;
+    } desks[] = {{"-- an update that replaces all of 4,096 list rows", 1, 0},
+                 {"-- the same with loans kept", 1, KEPT},
+                 {"-- an update that moves about half of 4,096 list rows, by shelf", 2, BY_SHELF}};
     word sheet[160], title[] = {500, 24, 0}, moved[] = {500, 24, 95};
-    printf("-- an update that replaces all of 4,096 list rows\n");
-    for (int kept = 0; kept < 2; kept++) {
-        size_t length = desk_sheet(sheet, 4096, 0, kept);
-        if (fill_desk(sheet, length, 4096, 1) || one_change(kept ? "update title, loans kept" : "update title", sheet, length, 3, TITLE, title, moved, 3))
+    int bad = 0;
+    for (size_t k = 0; k < sizeof desks / sizeof *desks; k++) {
+        size_t length = desk_sheet(sheet, 4096, desks[k].with);
+        printf("%s\n", desks[k].name);
+        if (fill_desk(sheet, length, 4096, desks[k].alike))
             return 1;
+        bad |= one_change("update title", sheet, length, 3, TITLE, title, moved, 3);
     }
-    return 0;
+    return bad;
 }
 
 static int rooms_grow(void)
@@ -247,7 +262,7 @@ static int rooms_grow(void)
     int bad = 0;
     printf("-- as rooms grow, each half full: insert loan, delete borrower\n");
     for (word room = 64; room <= 4096; room *= 4) {
-        size_t length = desk_sheet(sheet, room, 0, 0);
+        size_t length = desk_sheet(sheet, room, 0);
         if (fill_desk(sheet, length, room / 2, 0))
             return 1;
         word i = room / 4, fresh_loan[] = {5, desk_borrower(i), desk_copy(i), 20520}, borrower[] = {desk_borrower(i), 1, i % 12};
@@ -377,7 +392,7 @@ static int desk_days(void)
 {
     word sheet[160], taken, added;
     for (int kept = 0; kept < 2; kept++) {
-        size_t length = desk_sheet(sheet, 4096, 0, kept);
+        size_t length = desk_sheet(sheet, 4096, kept ? KEPT : 0);
         if (fill_desk(sheet, length, 3686, 0))
             return 1;
         desk_day(base, day);
@@ -431,7 +446,7 @@ static int fills(void)
     int bad = 0;
     printf("-- fill\n");
     for (int deep = 0; deep < 2; deep++) {
-        size_t length = deep ? chain(sheet) : desk_sheet(sheet, 4096, 1, 0), base_length = deep ? chain_tables() : desk_tables(base, 65535, 1, 0);
+        size_t length = deep ? chain(sheet) : desk_sheet(sheet, 4096, GROUPS), base_length = deep ? chain_tables() : desk_tables(base, 65535, 1, 0);
         call c = {.sheet = sheet, .sheet_length = length, .base_length = base_length};
         if (fill_fresh(sheet, length, base_length))
             return 1;

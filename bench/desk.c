@@ -12,15 +12,15 @@ size_t desk_width(word table)
     return table == LOAN ? 4 : 3;
 }
 
-size_t desk_sheet(word *sheet, word room, int groups, int kept)
+size_t desk_sheet(word *sheet, word room, int with)
 {
-    word head[] = {4, 3, groups ? 3 : 2, kept ? 4 : 5, 4, 3, 3, 3, 0, 2, 1, 1, 1, 1, 2, 1, 0, 1, 3, 1, 1, 2, 7, 7, 2, 1, 20, 29};
-    word group[] = {3, 1, 1, 1}, listed[] = {0, 0, 1, 0, 2, 2, 3, 2, 3, 0};
+    word head[] = {4, 3, with & GROUPS ? 3 : 2, with & KEPT ? 4 : 5, 4, 3, 3, 3, 0, 2, 1, 1, 1, 1, 2, 1, 0, 1, 3, 1, 1, 2, 7, 7, 2, 1, 20, 29};
+    word group[] = {3, 1, 1, 1}, listed[] = {0, 0, 1, 0, 2, 2, 3, 2, 3, 0}, by_shelf[] = {2, 2, 0, 0, 1, 0, 3, 2, 3, 0};
     size_t at = 0;
     memcpy(sheet, head, sizeof head), at += sizeof head / sizeof *head;
-    if (groups)
+    if (with & GROUPS)
         memcpy(sheet + at, group, sizeof group), at += 4;
-    memcpy(sheet + at, listed, sizeof listed), at += kept ? 8 : 10;
+    memcpy(sheet + at, with & BY_SHELF ? by_shelf : listed, sizeof listed), at += with & KEPT ? 8 : 10;
     for (int t = 0; t < 5; t++)
         sheet[at++] = room;
     return at;
@@ -36,7 +36,7 @@ word desk_borrower(word i)
     return 21234000000001 + 3 * i;
 }
 
-size_t desk_tables(word *base, word count, int few, int one)
+size_t desk_tables(word *base, word count, int few, word alike)
 {
     size_t at = 0;
     for (int t = 0; t < 4; t++)
@@ -46,7 +46,7 @@ size_t desk_tables(word *base, word count, int few, int one)
         base[at++] = 9001 + i, base[at++] = desk_borrower(k), base[at++] = desk_copy(k), base[at++] = 20520 + i % 30;
     }
     for (word i = 0; i < count; i++)
-        base[at++] = desk_copy(i), base[at++] = one ? 500 : 500 + i, base[at++] = few && i % 17 ? 8 : 7;
+        base[at++] = desk_copy(i), base[at++] = alike && i % alike == 0 ? 500 : 500 + i, base[at++] = few && i % 17 ? 8 : 7;
     for (word i = 0; i < count; i++)
         base[at++] = 500 + i, base[at++] = few && i % 17 ? 40 : 24, base[at++] = i % 90;
     for (word i = 0; i < count; i++)

@@ -18,11 +18,14 @@ size_t desk_width(uint64_t table);
 uint64_t desk_copy(uint64_t i);
 uint64_t desk_borrower(uint64_t i);
 
-// The desk sheet with these rooms; group 1 alone may be asked of borrowers; without the borrower's barcode on the list the loans are kept. Its length.
-size_t desk_sheet(uint64_t *sheet, uint64_t room, int groups, int kept);
+// The desk sheet with these rooms, and perhaps: group 1 alone of the borrowers; the loans kept, since the borrower's barcode is unlisted;
+// the shelf as the first listed column, so that rows move when titles do. Its length.
+enum { GROUPS = 1, KEPT = 2, BY_SHELF = 4 };
+size_t desk_sheet(uint64_t *sheet, uint64_t room, int with);
 
-// count rows in each of the desk's tables, each loan of some copy to some borrower; every row counts, or one in seventeen; `one` title for all. The length.
-size_t desk_tables(uint64_t *base, uint64_t count, int few, int one);
+// count rows in each of the desk's tables, each loan of some copy to some borrower; every row counts, or one in seventeen (few);
+// each copy of its own title, or every so many-th (alike) of the first. The length.
+size_t desk_tables(uint64_t *base, uint64_t count, int few, uint64_t alike);
 
 // A lending desk's day, one lawful change after the other, from tables of at most 4,096 rows: always the same.
 void desk_day(const uint64_t *base, desk_change *day);
