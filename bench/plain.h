@@ -1,4 +1,5 @@
-// The same calls in plain C, by the same algorithms: what the benchmarks measure the proved ones against. Nothing here is proved, and nothing but bench/ uses it.
+// The same calls in plain C, as quick as we can write them for the same contract: what the benchmarks measure the proved ones against.
+// Nothing here is proved, and nothing but bench/ uses it.
 #ifndef ORATJOLET_PLAIN_H
 #define ORATJOLET_PLAIN_H
 
