@@ -1,40 +1,30 @@
--- The list rows that an update replaces: which are marked, and that they are rewritten in place and settled.
+-- The list rows that an update replaces: those of the ways, or those found by key, as the plan says.
 -- Assumes nothing.
-use Prim.Native.Nat.{ℕ, _≤_}
+use Prim.Native.Nat.{ℕ}
 use mathlib.Core.Path.{_≡_, refl, sym, ap, _∙_}
 use mathlib.Core.Bool.{Bool, true, false, not, _||_}
-use mathlib.Core.Logic.{inl, inr, ⊎-elim}
+use mathlib.Core.Logic.{inl, inr}
 use lib.Dec.{T, eqb}
-use lib.ListN.{length, getD}
-use Rattle.lists.specs.Lists.{Words, all}
-use Rattle.lists.specs.Parts.{splice}
-use Rattle.lists.proofs.Truth.{F→≡, or-inl, or-inr, or-cases, eq→eqb, eqb→≡}
-use Rattle.rows.specs.Rows.{Row, Rows, sameRow, sorted}
-use Rattle.meaning.specs.Sheet.{Sheet, sheetOf, listedCount}
+use borrow.Author.Tests.{eq-eqb, ne-eqb}
+use Rattle.lists.specs.Lists.{Words, at, all}
+use Rattle.lists.proofs.Truth.{isT, F→≡, false→F, not→F, F→not, same-test, eq→eqb, eqb→≡}
+use Rattle.rows.specs.Rows.{Row, sameRow}
+use Rattle.meaning.specs.Sheet.{Sheet, sheetOf}
 use Rattle.meaning.specs.Plan.{root, kept}
 use Rattle.meaning.specs.Meaning.{Model}
 use Rattle.meaning.specs.Store.{modelOf}
 use Rattle.meaning.specs.Change.{qualifies, canTake, rowsFound, withColumns, foundShow}
-use Rattle.walks.specs.Marks.{altered, isMarked}
-use Rattle.walks.proofs.Marks.{length-altered}
 use Rattle.effects.specs.Applied.{replacedRows}
 use Rattle.effects.proofs.Marking.{replaced-walks, shows-walks}
 use Rattle.sheet_plan.specs.declared.Plan.{Plan}
-use Rattle.list_part.specs.Gives.{gives, given}
 use Rattle.walk.specs.Ladders.{ByKey}
-use Rattle.store.specs.declared.Part.{Part}
-use Rattle.store.specs.Parts.{stopOf, wordsIn, countIn, rowsIn, Kept, Wrote}
 use Rattle.store.proofs.Plans.{marked, unmarked}
-use Rattle.list_part.specs.Loose.{Loose, looseRows, Behind}
-use Rattle.list_part.proofs.Rewrites.{behind-loose, behind-settled}
-use Rattle.list_part.proofs.Lists.{rows-many}
-use Rattle.list_part.proofs.Altered.{behind-given}
 use Rattle.change_laws.specs.Ready.{Ready}
 use Rattle.change_laws.proofs.Halves.{ready-good}
 use Rattle.change_taken.specs.declared.Taken.{Taken}
 use Rattle.change_taken.specs.declared.Taken.the-variants.{All, Contrary}
 use Rattle.change_taken.specs.Taking.{WaysTaken, FoundTaken}
-use Rattle.change_update.specs.Updates.{ReplacedTaken}
+use Rattle.change_update.specs.Updates.{canTakeBy, ReplacedTaken}
 
 -- where no way can be taken, the rows found by key are replaced
 module _ (s : Sheet) (m : Model) (t : ℕ) (r : Row) (no-way : T (canTake s t) → ⊥) where
@@ -54,8 +44,26 @@ module _ (s : Sheet) (m : Model) (t : ℕ) (r : Row) (no-way : T (canTake s t) �
   unfolding foundShow
   shows-no e q = rw (F→≡ (canTake s t) no-way, q, e)
 
-module _ {ws store : Words} {plan : Plan} (rd : Ready ws store plan) (t : ℕ) (r : Row) (marks : Words) where
-  by-ways : T (canTake (sheetOf ws) t) → (a : Taken) → WaysTaken ws store t r marks a → ReplacedTaken ws store t r marks a
+-- what the plan says of ways
+module _ (plan : Plan) (t : ℕ) where
+  pub takes-root : t ≡ plan .root → true ≡ canTakeBy plan t
+  unfolding canTakeBy
+  takes-root e = rw (eq-eqb t (plan .root) e)
+
+  pub takes-kept : (at (plan .kept) (plan .root) ≡ 0 → ⊥) → true ≡ canTakeBy plan t
+  unfolding canTakeBy
+  takes-kept d = rw (ne-eqb (at (plan .kept) (plan .root)) 0 d) (either (eqb t (plan .root)))
+    where
+      either : (b : Bool) → true ≡ (b || true)
+      either true = refl
+      either false = refl
+
+  pub takes-none : (t ≡ plan .root → ⊥) → at (plan .kept) (plan .root) ≡ 0 → false ≡ canTakeBy plan t
+  unfolding canTakeBy
+  takes-none d e = rw (ne-eqb t (plan .root) d, eq-eqb (at (plan .kept) (plan .root)) 0 e)
+
+module _ {ws store : Words} {plan : Plan} (rd : Ready ws store plan) (t : ℕ) (r : Row) (numbers : Words) where
+  by-ways : T (canTake (sheetOf ws) t) → (a : Taken) → WaysTaken ws store t r numbers a → ReplacedTaken ws store t r numbers a
   by-ways can (All k) h =
       let s = sheetOf ws in
       let m = modelOf s store in
@@ -65,57 +73,28 @@ module _ {ws store : Words} {plan : Plan} (rd : Ready ws store plan) (t : ℕ) (
       let m = modelOf s store in
       inr (shows-walks s m t r can, rw (replaced-walks s m t r can) h)
 
-  -- the row is one of the root's
-  pub by-root : t ≡ plan .root → (a : Taken) → WaysTaken ws store t r marks a → ReplacedTaken ws store t r marks a
-  unfolding canTake
-  by-root e a h = by-ways (or-inl (eqb t (root (sheetOf ws))) (kept (sheetOf ws) (root (sheetOf ws))) (eq→eqb (e ∙ rd .planned .planned .root-is))) a h
+  -- the plan says whether ways can be taken
+  take-by : canTakeBy plan t ≡ canTake (sheetOf ws) t
+  unfolding canTakeBy canTake
+  take-by = rw (rd .planned .planned .root-is) (ap (λ b. eqb t (root (sheetOf ws)) || b)
+      (same-test (not (eqb (at (plan .kept) (root (sheetOf ws))) 0)) (kept (sheetOf ws) (root (sheetOf ws))) yes no))
+    where
+      yes : T (not (eqb (at (plan .kept) (root (sheetOf ws))) 0)) → T (kept (sheetOf ws) (root (sheetOf ws)))
+      yes h = marked (sheetOf ws) plan (rd .planned) (root (sheetOf ws)) (ready-good rd .root-in) (λ e. not→F (eqb (at (plan .kept) (root (sheetOf ws))) 0) h (eq→eqb e))
 
-  root-kept : (getD (plan .kept) (plan .root) 0 ≡ 0 → ⊥) → T (kept (sheetOf ws) (root (sheetOf ws)))
-  root-kept d =
-      marked (sheetOf ws) plan (rd .planned) (root (sheetOf ws)) (ready-good rd .root-in)
-      (λ e. d (ap (λ (u : ℕ). getD (plan .kept) u 0) (rd .planned .planned .root-is) ∙ e))
+      no : T (kept (sheetOf ws) (root (sheetOf ws))) → T (not (eqb (at (plan .kept) (root (sheetOf ws))) 0))
+      no h = F→not (eqb (at (plan .kept) (root (sheetOf ws))) 0) (λ e. unmarked (sheetOf ws) plan (rd .planned) (root (sheetOf ws)) (ready-good rd .root-in) (eqb→≡ (at (plan .kept) (root (sheetOf ws))) 0 e) h)
 
-  -- the root has a side table
-  pub by-kept : (getD (plan .kept) (plan .root) 0 ≡ 0 → ⊥) → (a : Taken) → WaysTaken ws store t r marks a → ReplacedTaken ws store t r marks a
-  unfolding canTake
-  by-kept d a h = by-ways (or-inr (eqb t (root (sheetOf ws))) (kept (sheetOf ws) (root (sheetOf ws))) (root-kept d)) a h
+  pub by-plan : (b : Bool) → b ≡ canTakeBy plan t → b ≡ true → (a : Taken) → WaysTaken ws store t r numbers a → ReplacedTaken ws store t r numbers a
+  by-plan b e can a h = by-ways (isT (sym take-by ∙ sym e ∙ can)) a h
 
-  -- neither
-  module _ (d : t ≡ plan .root → ⊥) (e : getD (plan .kept) (plan .root) 0 ≡ 0) where
+  module _ (b : Bool) (e : b ≡ canTakeBy plan t) (no : b ≡ false) where
     pub no-way : ByKey ws t
-    unfolding canTake
-    no-way h =
-        ⊎-elim (λ k. d (eqb→≡ t (root (sheetOf ws)) k ∙ sym (rd .planned .planned .root-is)))
-        (λ k. unmarked (sheetOf ws) plan (rd .planned) (root (sheetOf ws)) (ready-good rd .root-in)
-        (ap (λ (u : ℕ). getD (plan .kept) u 0) (sym (rd .planned .planned .root-is)) ∙ e) k)
-        (or-cases (eqb t (root (sheetOf ws))) (kept (sheetOf ws) (root (sheetOf ws))) h)
+    no-way = false→F (sym take-by ∙ sym e ∙ no)
 
-    pub by-key : (a : Taken) → FoundTaken ws store t r marks a → ReplacedTaken ws store t r marks a
+    pub by-key : (a : Taken) → FoundTaken ws store t r numbers a → ReplacedTaken ws store t r numbers a
     by-key (All k) h =
         let s = sheetOf ws in
         let m = modelOf s store in
         rw (replaced-found s m t r no-way) (h .0, shows-yes s m t r no-way (h .1), h .2)
     by-key Contrary h = λ q. inl (shows-no (sheetOf ws) (modelOf (sheetOf ws) store) t r no-way h q)
-
--- The marked rows get the new row's columns where they stand, and are settled
-module _ (sheet : Words) (t : ℕ) (r : Row) (marks : Words) (p : Part) (old : Words) (k : Kept p old)
-    (few : countIn p old ≤ p .room) (w : p .columns ≡ listedCount sheet) (mid : Words)
-    (e : mid ≡ splice old (p .start) (stopOf p) (given sheet t r marks (countIn p old) (wordsIn p old))) where
-  rows : Rows
-  rows = altered (isMarked marks) (gives sheet t r) (rowsIn p old)
-
-  behind : Behind p old rows mid
-  unfolding rows
-  behind = behind-given sheet t r marks p old k few w mid e
-
-  many : countIn p old ≡ length rows
-  unfolding rows
-  many = sym (length-altered (isMarked marks) (gives sheet t r) (rowsIn p old) ∙ rows-many p old)
-
-  pub given-loose : Loose p (countIn p old) mid
-  given-loose = behind-loose p old (k .within) rows mid behind (countIn p old) many
-
-  pub given-settled : (exit : Words) → Wrote p (sorted (looseRows p (countIn p old) mid)) mid exit
-      → Wrote p (sorted (altered (isMarked marks) (gives sheet t r) (rowsIn p old))) old exit
-  unfolding rows
-  given-settled = behind-settled p old (k .within) rows mid behind (countIn p old) many

@@ -2,40 +2,38 @@
 -- Assumes nothing.
 use Prim.Native.Nat.{ℕ}
 use mathlib.Core.Path.{_≡_}
-use mathlib.Core.Bool.{true, false}
+use mathlib.Core.Bool.{Bool, true, false, not, _||_}
 use mathlib.Core.Logic.{_⊎_}
-use lib.ListN.{length}
-use Rattle.lists.specs.Lists.{Words}
-use Rattle.rows.specs.Rows.{Row, hasRows, sorted}
+use lib.Dec.{eqb}
+use lib.ListN.{length, take}
+use Rattle.lists.specs.Lists.{Words, at}
+use Rattle.rows.specs.Rows.{Row, hasRows}
 use Rattle.meaning.specs.Sheet.{sheetOf}
 use Rattle.meaning.specs.Store.{modelOf, rowsAt}
 use Rattle.meaning.specs.Change.{qualifies, foundShow}
 use Rattle.meaning.specs.Base.{changeOf}
-use Rattle.walks.specs.Marks.{altered, isMarked}
 use Rattle.effects.specs.Applied.{applied, replacedRows, Marked}
-use Rattle.store.specs.declared.Part.{Part}
+use Rattle.sheet_plan.specs.declared.Plan.{Plan}
 use Rattle.store.specs.declared.Answer.{Answer}
 use Rattle.store.specs.Answers.{Says}
-use Rattle.store.specs.Parts.{rowsIn, Wrote}
-use Rattle.list_part.specs.Gives.{gives}
 use Rattle.change_taken.specs.declared.Taken.{Taken}
 use Rattle.change_taken.specs.declared.Taken.the-variants.{All, Contrary}
 
--- the list rows to be replaced show r's values and are marked, so many; or, if r is qualified, one shows others or they are not there as often
+-- ways can be taken, as the plan says
+unfoldable pub canTakeBy : Plan → ℕ → Bool
+canTakeBy plan t = eqb t (plan .root) || not (eqb (at (plan .kept) (plan .root)) 0)
+
+-- the list rows to be replaced show r's values and are marked by the first k numbers; or, if r is qualified, one shows others or they are not there as often
 abbrev pub ReplacedTaken : Words → Words → ℕ → Row → Words → Taken → Type 0
-ReplacedTaken ws store t r marks (All k) =
+ReplacedTaken ws store t r numbers (All k) =
     (k ≡ length (replacedRows (sheetOf ws) (modelOf (sheetOf ws) store) t r))
     × (foundShow (sheetOf ws) (modelOf (sheetOf ws) store) t r ≡ true)
-    × Marked (replacedRows (sheetOf ws) (modelOf (sheetOf ws) store) t r) (rowsAt (sheetOf ws) store (sheetOf ws .n)) marks
-ReplacedTaken ws store t r marks Contrary =
+    × Marked (replacedRows (sheetOf ws) (modelOf (sheetOf ws) store) t r) (rowsAt (sheetOf ws) store (sheetOf ws .n)) (take k numbers)
+ReplacedTaken ws store t r numbers Contrary =
     qualifies (sheetOf ws) (modelOf (sheetOf ws) store) t r ≡ true
     → (foundShow (sheetOf ws) (modelOf (sheetOf ws) store) t r ≡ false)
     ⊎ ((foundShow (sheetOf ws) (modelOf (sheetOf ws) store) t r ≡ true)
     × (hasRows (replacedRows (sheetOf ws) (modelOf (sheetOf ws) store) t r) (rowsAt (sheetOf ws) store (sheetOf ws .n)) ≡ false))
-
--- the list is written anew: its marked rows have r's values in table t's columns, and all are in order
-abbrev pub RowsReplaced : Words → ℕ → Row → Words → Part → Words → Words → Type 0
-RowsReplaced ws t r marks list before after = Wrote list (sorted (altered (isMarked marks) (gives ws t r) (rowsIn list before))) before after
 
 -- the whole outcome is the definition's
 pub record Updates (ws store : Words) (t : ℕ) (old new : Row) (a : Answer) (exit : Words) : Type 0 where

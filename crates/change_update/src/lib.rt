@@ -6,17 +6,30 @@ use sheet_plan::Plan;
 use store::Answer;
 use store::Part;
 ghost use mathlib.Core.Path.{_≡_};
-ghost use Prim.Native.Nat.{ℕ, _<_, _≤_};
-ghost use lib.ListN.{length, replicate};
-ghost use Rattle.meaning.specs.Limits.{mostRoom};
-ghost use Rattle.meaning.specs.Sheet.{sheetOf, listedCount};
+ghost use Prim.Native.Nat.{_<_};
+ghost use lib.ListN.{length};
+ghost use Rattle.meaning.specs.Limits.{mostTables, mostRoom};
+ghost use Rattle.meaning.specs.Sheet.{sheetOf};
 ghost use Rattle.laws.specs.Updates.{Tied};
-ghost use Rattle.sheet.specs.Rules.{Rules};
-ghost use Rattle.list_part.specs.Gives.{Fits};
 ghost use Rattle.walk.specs.Grounds.{Lent};
-ghost use Rattle.store.specs.Parts.{countIn, Lies, Kept};
+ghost use Rattle.store.specs.Parts.{Lies};
 ghost use Rattle.change_laws.specs.Ready.{Ready};
-ghost use Rattle.change_update.specs.Updates.{ReplacedTaken, RowsReplaced, Updates};
+ghost use Rattle.change_update.specs.Updates.{canTakeBy, ReplacedTaken, Updates};
+
+// Whether ways through a row of this table can be taken: it is the root, or the root has a side table.
+fn can_take(plan: Plan, table: usize) -> bool
+    requires { ⌜ plan .root < mostTables ⌝ }
+    ensures { λ b. ⌜ b ≡ canTakeBy plan table ⌝ }
+{
+    let root = plan.root;
+    if table == root {
+        return true;
+    }
+    if plan.kept[root] != 0 {
+        return true;
+    }
+    false
+}
 
 // Marks the list rows that an update of a row replaces: those of the ways through it, or, if no way can be taken, those found by its key.
 fn mark_replaced(
@@ -26,16 +39,15 @@ fn mark_replaced(
     list: Part,
     table: usize,
     row: &[u64],
-    marks: &mut [u16],
+    marked: &mut [u16],
 ) -> Taken
     requires { ⌜ Ready (now sheet) (now store) plan ⌝ }
     requires { ⌜ Lies (sheetOf (now sheet)) (sheetOf (now sheet) .n) list ⌝ }
     requires { ⌜ Lent (now sheet) table (now row) ⌝ }
-    requires { ⌜ now marks ≡ replicate mostRoom 0 ⌝ }
-    ensures { λ a. ⌜ ReplacedTaken (now (sheet .entry)) (now (store .entry)) table (now (row .entry)) (now (marks .exit)) a ⌝ }
+    requires { ⌜ length (now marked) ≡ mostRoom ⌝ }
+    ensures { λ a. ⌜ ReplacedTaken (now (sheet .entry)) (now (store .entry)) table (now (row .entry)) (now (marked .exit)) a ⌝ }
 {
-    let root = plan.root;
-    if table == root {
+    if can_take(plan, table) {
         return change_taken::mark_ways(
             sheet,
             plan.root,
@@ -47,22 +59,7 @@ fn mark_replaced(
             list,
             table,
             row,
-            marks,
-        );
-    }
-    if plan.kept[root] != 0 {
-        return change_taken::mark_ways(
-            sheet,
-            plan.root,
-            &plan.order,
-            &plan.starts,
-            &plan.columns,
-            &plan.places,
-            store,
-            list,
-            table,
-            row,
-            marks,
+            marked,
         );
     }
     change_taken::mark_found(
@@ -74,32 +71,8 @@ fn mark_replaced(
         list,
         table,
         row,
-        marks,
+        marked,
     )
-}
-
-// The marked list rows, k of them, get row's values in table's columns, and the list is put in order.
-fn replace_rows(
-    sheet: &[u64],
-    store: &mut [u64],
-    list: Part,
-    marks: &[u16],
-    k: usize,
-    table: usize,
-    row: &[u64],
-)
-    requires { ⌜ Rules (now sheet) ⌝ }
-    requires { ⌜ Fits (now sheet) table (now row) ⌝ }
-    requires { ⌜ Kept list (now store) ⌝ }
-    requires { ⌜ countIn list (now store) ≤ list .room ⌝ }
-    requires { ⌜ list .columns ≡ listedCount (now sheet) ⌝ }
-    requires { ⌜ countIn list (now store) ≤ length (now marks) ⌝ }
-    ensures { λ _. ⌜ RowsReplaced (now (sheet .entry)) table (now (row .entry)) (now (marks .entry)) list (now (store .entry)) (now (store .exit)) ⌝ }
-{
-    let slot = list.slot;
-    let count = store[slot] as usize;
-    list_part::give_rows(sheet, store, list, marks, table, row);
-    list_part::settle_rows(store, list, 0, count);
 }
 
 // Old becomes new in its table, if it is qualified: the side row is replaced, and the list rows of the ways through it, or found by its key.
@@ -125,12 +98,12 @@ pub fn update(
         return Answer::Done(0, 0);
     }
     let list = store::part_of(plan, plan.tables);
-    let mut marks = [0u16; ROOM];
-    let a = mark_replaced(sheet, plan, store, list, table, old, &mut marks);
+    let mut marked = [0u16; ROOM];
+    let a = mark_replaced(sheet, plan, store, list, table, old, &mut marked);
     let Taken::All(k) = a else {
         return Answer::Refused(CONTRADICTION);
     };
-    replace_rows(sheet, store, list, &marks, k, table, new);
+    list_part::replace_rows(sheet, store, list, &marked[..k], table, old, new);
     side_table::replace_side(sheet, plan, store, table, old, new);
     Answer::Done(k as u64, k as u64)
 }

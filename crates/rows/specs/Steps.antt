@@ -25,7 +25,7 @@ unfoldable pub leadsAt : Bool → Words → ℕ → ℕ → Bool
 leadsAt two s k m = cond (two && eqb (at s k) (at s m)) (ltb (at s (k + 1)) (at s (m + 1))) (ltb (at s k) (at s m))
 
 -- from row `from` to row k, which is at most row `to`, each stands so to the next
-pub record Stretch (R : Row → Row → Bool) (w : ℕ) (s : Words) (from to k : ℕ) : Type 0 where
+pub record RisesTo (R : Row → Row → Bool) (w : ℕ) (s : Words) (from to k : ℕ) : Type 0 where
   pub begins : from ≤ k
   pub ends : k ≤ to
   pub each : (i : ℕ) → from ≤ i → i < k → step R w s i ≡ true

@@ -5,6 +5,7 @@ use mathlib.Core.Path.{_≡_, refl, sym, ap, _∙_, subst}
 use mathlib.Core.Bool.{cond}
 use mathlib.Core.Logic.{⊎-elim}
 use native.Mathlib.Omega.{arith}
+use borrow.Author.Tests.{lt-ltb, le-ltb}
 use lib.Dec.{T, ltb}
 use lib.ListN.{length, getD}
 use Rattle.lists.specs.Lists.{Words}
@@ -16,8 +17,17 @@ use Rattle.sheet_plan.specs.declared.Plan.{Plan}
 use Rattle.places.proofs.Parts.{start-after}
 use Rattle.store.specs.declared.Part.{Part}
 use Rattle.store.specs.Parts.{Lies, Within}
-use Rattle.store.specs.Plans.{GoodPlan, OfSheet, partOf}
+use Rattle.store.specs.Plans.{GoodPlan, OfSheet, partAt, partOf}
 use Rattle.store.proofs.Lying.{lies-within}
+
+-- a part by the plan's arrays: a table's, and the list's
+pub table-at : (p : Plan) (t : ℕ) → t < p .tables → partAt (p .starts) (p .columns) (p .rooms) t t ≡ partOf p t
+unfolding partOf
+table-at p t l = rw (lt-ltb t (p .tables) l)
+
+pub list-at : (p : Plan) (number : ℕ) → p .tables ≤ number → partAt (p .starts) (p .columns) (p .rooms) 8 number ≡ partOf p number
+unfolding partOf
+list-at p number l = rw (le-ltb number (p .tables) l)
 
 module _ (s : Sheet) (p : Plan) (plan : GoodPlan s p) where
   pub tables-is : p .tables ≡ s .n

@@ -26,15 +26,18 @@ pub record OfSheet (p : Plan) : Type 0 where
   pub sheet : Sheet
   pub is : GoodPlan sheet p
 
--- where part `number` lies
-unfoldable pub partOf : Plan → ℕ → Part
-partOf p number =
+-- where part `number` lies by the plan's arrays, and by the plan
+abbrev pub partAt : Words → Words → Words → ℕ → ℕ → Part
+partAt starts columns rooms slot number =
     record {
-      slot = cond (ltb number (p .tables)) number listCount;
-      start = getD (p .starts) number 0;
-      columns = getD (p .columns) number 0;
-      room = getD (p .rooms) number 0;
+      slot = slot;
+      start = getD starts number 0;
+      columns = getD columns number 0;
+      room = getD rooms number 0;
     }
+
+unfoldable pub partOf : Plan → ℕ → Part
+partOf p number = partAt (p .starts) (p .columns) (p .rooms) (cond (ltb number (p .tables)) number listCount) number
 
 -- the first t tables of a store are sound
 pub record SidesTo (p : Plan) (ws : Words) (t : ℕ) : Type 0 where

@@ -1,12 +1,13 @@
 // The store of a good sheet: sound or not, its parts shown and written, and what a call that may write it answers.
 use rows::Found;
+use sheet::PARTS;
 use sheet::TABLES;
 use sheet::Verdict;
 use sheet_plan::Plan;
 ghost use mathlib.Core.Path.{_≡_};
-ghost use mathlib.Core.Bool.{true};
+ghost use mathlib.Core.Bool.{true, cond};
 ghost use Prim.Native.Nat.{_+_, _<_, _≤_};
-ghost use lib.Dec.{T};
+ghost use lib.Dec.{T, eqb};
 ghost use lib.ListN.{length, set, take};
 ghost use Rattle.lists.specs.Totals.{one};
 ghost use Rattle.rows.specs.Rows.{rising, putRow, takeRow};
@@ -16,7 +17,7 @@ ghost use Rattle.meaning.specs.Limits.{mostTables};
 ghost use Rattle.store.specs.Tests.{absentZero};
 ghost use Rattle.store.specs.Parts.{countIn, rowsIn, soundIn, Within, Kept, Wrote};
 ghost use Rattle.store.specs.Shows.{noStretch, Stands, HandsBack};
-ghost use Rattle.store.specs.Plans.{OfSheet, partOf, TableIs, SidesIs, SoundIs};
+ghost use Rattle.store.specs.Plans.{OfSheet, partAt, partOf, SidesIs, SoundIs};
 
 // What fill and change answer: rows taken from the list and rows added to it, or the number of the refusal.
 pub enum Answer {
@@ -39,29 +40,35 @@ pub struct Stretch {
     pub count: usize,
 }
 
+// Where part `number` lies, with its count at `slot`: a plan is large, so the three arrays that say it are lent.
+fn part_at<'a>(
+    starts: &'a [usize; PARTS + 1],
+    columns: &'a [usize; PARTS],
+    rooms: &'a [usize; PARTS],
+    slot: usize,
+    number: usize,
+) -> Part
+    requires { ⌜ number ≤ mostTables ⌝ }
+    ensures { λ p. ⌜ p ≡ partAt (now (starts .entry)) (now (columns .entry)) (now (rooms .entry)) slot number ⌝ }
+{
+    Part {
+        slot: slot,
+        start: starts[number],
+        columns: columns[number],
+        room: rooms[number],
+    }
+}
+
 // Where part `number` lies: a table's, or at n (tables) the list's.
 pub fn part_of(plan: Plan, number: usize) -> Part
     requires { ⌜ number ≤ plan .tables ⌝ }
     requires { ⌜ plan .tables ≤ mostTables ⌝ }
     ensures { λ p. ⌜ p ≡ partOf plan number ⌝ }
 {
-    let start = plan.starts[number];
-    let columns = plan.columns[number];
-    let room = plan.rooms[number];
     if number < plan.tables {
-        return Part {
-            slot: number,
-            start: start,
-            columns: columns,
-            room: room,
-        };
+        return part_at(&plan.starts, &plan.columns, &plan.rooms, number, number);
     }
-    Part {
-        slot: TABLES,
-        start: start,
-        columns: columns,
-        room: room,
-    }
+    part_at(&plan.starts, &plan.columns, &plan.rooms, TABLES, number)
 }
 
 // Whether the counts of the tables from n to 7, which the sheet does not have, are 0.
@@ -95,17 +102,16 @@ fn part_sound(store: &[u64], p: Part, keyed: bool) -> bool
     rows::sound_region(&store[from..to], p.columns, p.room, count)
 }
 
-// Whether table t is sound: its part, or if it is unkept its count, which is then 0.
-fn table_sound(plan: Plan, store: &[u64], t: usize) -> bool
-    requires { ⌜ OfSheet plan ⌝ }
-    requires { ⌜ t < plan .tables ⌝ }
-    requires { ⌜ length (now store) ≡ plan .store ⌝ }
-    ensures { λ b. ⌜ TableIs plan (now (store .entry)) t b ⌝ }
+// Whether a table is sound: its part, or if it is unkept its count, which is then 0.
+fn table_sound(store: &[u64], p: Part, kept: u64) -> bool
+    requires { ⌜ Within p (now store) ⌝ }
+    requires { ⌜ ((kept ≡ 0 → ⊥) → 0 < p .columns) ⌝ }
+    ensures { λ b. ⌜ b ≡ cond (eqb kept 0) (eqb (countIn p (now (store .entry))) 0) (soundIn p true (now (store .entry))) ⌝ }
 {
-    if plan.kept[t] == 0 {
-        return store[t] == 0;
+    if kept == 0 {
+        let slot = p.slot;
+        return store[slot] == 0;
     }
-    let p = part_of(plan, t);
     part_sound(store, p, true)
 }
 
@@ -117,7 +123,9 @@ fn sides_sound(plan: Plan, store: &[u64]) -> bool
     let n = plan.tables;
     let mut t = 0;
     while t < n {
-        if table_sound(plan, store, t) {
+        let p = part_at(&plan.starts, &plan.columns, &plan.rooms, t, t);
+        let kept = plan.kept[t];
+        if table_sound(store, p, kept) {
             t += 1;
         } else {
             return false;
@@ -140,7 +148,13 @@ pub fn is_sound(plan: Plan, store: &[u64]) -> bool
     if !sides_sound(plan, store) {
         return false;
     }
-    let p = part_of(plan, plan.tables);
+    let p = part_at(
+        &plan.starts,
+        &plan.columns,
+        &plan.rooms,
+        TABLES,
+        plan.tables,
+    );
     part_sound(store, p, false)
 }
 

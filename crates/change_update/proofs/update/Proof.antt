@@ -1,12 +1,13 @@
 -- `update` meets its contract.
 -- Assumes nothing.
-use mathlib.Core.Path.{refl}
-use Rattle.change_laws.proofs.Halves.{ready-good, ready-ground, ready-list, ready-table, ready-tables, half-modelled}
-use Rattle.list_part.proofs.Lists.{list-columns, list-kept, list-room}
-use Rattle.change_taken.proofs.Lists.{marks-enough}
+use mathlib.Core.Path.{refl, sym}
+use lib.Seq.{length-take-le}
+use Rattle.change_laws.proofs.Halves.{ready-ground, ready-list, ready-table, ready-tables, half-modelled}
 use Rattle.change_taken.proofs.Finding.{fits-lent}
-use Rattle.change_update.proofs.Updating.{updates-contradicts-side, updates-none, updates-contradicts-list, replaceable, updates-done}
+use Rattle.change_update.proofs.Updating.{updates-contradicts-side, updates-none, updates-contradicts-list}
+use Rattle.change_update.proofs.Updating.{numbers-few, rows-replaceable, rows-show, replaceable, updates-done}
 use borrow.Author.Needs.{needs}
+use native.Mathlib.Omega.{arith}
 use Rattle.change_update.proofs.update.Statement.{statement}
 use Rattle.change_update.proofs.update.Tie as tie
 
@@ -82,46 +83,56 @@ returns-3 c =
     updates-contradicts-list (pre .0) (pre .1 .0) _ _ (at-is-qualified .is-qualified .ensures) _ (at-old-row .old-row .ensures) (at-if1 .if1 .left)
     (at-if2 .if2 .left) _ _ (at-mark-replaced .mark-replaced .ensures) (c .enum-told .given .1)
 
+-- from the answer back to the marking, to the tests, to the list's part and to the start
+abbrev marking : tie.After-a → tie.After-mark-replaced
+marking c = c .before .before .before
+
+abbrev listing : tie.After-a → tie.After-part-of
+listing c = marking c .before .before .before
+
+abbrev passed : tie.After-a → tie.Else2
+passed c = listing c .before
+
+abbrev asked : tie.After-a → tie.After-old-row
+asked c = passed c .before .before
+
+abbrev tested : tie.After-a → tie.After-is-qualified
+tested c = asked c .before .before
+
+abbrev start : tie.After-a → tie.Start
+start c = tested c .before .before .before .before .before .before .before .before .before
+
+array-share-prefix-marked : tie.Need-array-share-prefix-marked
+array-share-prefix-marked c =
+    let at-a = c .before .before in
+    let pre = start at-a .pre in
+    numbers-few (pre .0) (pre .1 .0) (start at-a .args .new .now) _ (tested at-a .is-qualified .ensures) _ (asked at-a .old-row .ensures) (passed at-a .before .if1 .left)
+    (passed at-a .if2 .left) _ _ (marking at-a .mark-replaced .ensures) _ (at-a .a .given .1) _
+    (ready-list (pre .0) _ (listing at-a .part-of .ensures)) _ (at-a .before .before .marked2 .given) (omega arith)
+
 slice-aggregate-replace-rows : tie.Need-slice-aggregate-replace-rows
-slice-aggregate-replace-rows c = search needs
+slice-aggregate-replace-rows c = sym (length-take-le _ _ (array-share-prefix-marked (c .before)))
 
 replace-rows-requires : tie.Need-replace-rows-requires
 replace-rows-requires c κs =
-    let at-marks2 = c .before .before .before .before .before in
-    let at-mark-replaced = at-marks2 .before in
-    let at-part-of = at-mark-replaced .before .before .before in
-    let at-start = at-part-of .before .before .before .before .before .before .before .before .before .before .before .before .before .before in
-    let pre = at-start .pre in
-    let lies = ready-list (pre .0) _ (at-part-of .part-of .ensures) in (
-      pre .0 .sheet .joined .rules,
+    let at-a = c .before .before .before in
+    let pre = start at-a .pre in
+    let lies = ready-list (pre .0) _ (listing at-a .part-of .ensures) in (
+      rows-replaceable (pre .0) (pre .1 .0) _ _ (tested at-a .is-qualified .ensures) _ (asked at-a .old-row .ensures) (passed at-a .before .if1 .left)
+          (passed at-a .if2 .left) _ _ (marking at-a .mark-replaced .ensures) _ (at-a .a .given .1) _ lies (pre .1 .1 .0),
       (
-        fits-lent _ _ _ (pre .1 .1 .0),
-        (
-          list-kept _ (ready-good (pre .0)) _ (pre .0 .sound) _ lies,
-          (
-            list-room _ (ready-good (pre .0)) _ (pre .0 .sound) _ lies,
-            (
-              list-columns _ _ lies,
-              marks-enough _ (ready-good (pre .0)) _ (pre .0 .sound) _ lies (at-mark-replaced .mark-replaced .last .1 .1 .1 .1 .1 .1 .0)
-                  (at-marks2 .marks2 .given),
-            ),
-          ),
-        ),
+        fits-lent _ _ _ (pre .1 .0),
+        rows-show (pre .0) (pre .1 .0) (start at-a .args .new .now) _ (tested at-a .is-qualified .ensures) _ (asked at-a .old-row .ensures) (passed at-a .before .if1 .left)
+            (passed at-a .if2 .left) _ _ (marking at-a .mark-replaced .ensures) _ (at-a .a .given .1) _ lies,
       ),
     )
 
 replace-side-requires : tie.Need-replace-side-requires
 replace-side-requires c κs =
-    let at-replace-rows = c .before .before .before in
-    let at-mark-replaced = at-replace-rows .before .before .before .before .before .before .before in
-    let at-part-of = at-mark-replaced .before .before .before in
-    let at-if2 = at-part-of .before in
-    let at-if1 = at-if2 .before in
-    let at-old-row = at-if1 .before in
-    let at-is-qualified = at-old-row .before .before in
-    let at-start = at-is-qualified .before .before .before .before .before .before .before .before .before in
-    let pre = at-start .pre in
-    let lies = ready-list (pre .0) _ (at-part-of .part-of .ensures) in (
+    let at-rows = c .before .before .before in
+    let at-a = at-rows .before .before .before .before in
+    let pre = start at-a .pre in
+    let lies = ready-list (pre .0) _ (listing at-a .part-of .ensures) in (
       pre .0 .planned,
       (
         ready-table (pre .0) (pre .1 .0),
@@ -130,10 +141,10 @@ replace-side-requires c κs =
           (
             pre .1 .1 .0 .wide,
             (
-              half-modelled (pre .0) _ lies _ _ (at-replace-rows .replace-rows .ensures),
-              replaceable (pre .0) (pre .1 .0) _ _ (at-is-qualified .is-qualified .ensures) _ (at-old-row .old-row .ensures) (at-if1 .if1 .left)
-                  (at-if2 .if2 .left) _ (at-mark-replaced .mark-replaced .result) (at-mark-replaced .mark-replaced .ensures) (pre .1 .1 .1) _ lies _
-                  (at-replace-rows .replace-rows .ensures),
+              half-modelled (pre .0) _ lies _ _ (at-rows .replace-rows .ensures),
+              replaceable (pre .0) (pre .1 .0) _ _ (tested at-a .is-qualified .ensures) _ (asked at-a .old-row .ensures) (passed at-a .before .if1 .left)
+                  (passed at-a .if2 .left) _ _ (marking at-a .mark-replaced .ensures) (pre .1 .1 .1) _ (at-a .a .given .1) _ lies _
+                  (at-rows .replace-rows .ensures),
             ),
           ),
         ),
@@ -145,21 +156,14 @@ same-length-4 c = search needs
 
 returns-4 : tie.Need-returns-4
 returns-4 c =
-    let at-replace-side = c .before .before in
-    let at-replace-rows = at-replace-side .before .before .before .before in
-    let at-a = at-replace-rows .before .before .before .before in
-    let at-mark-replaced = at-a .before .before .before in
-    let at-part-of = at-mark-replaced .before .before .before in
-    let at-if2 = at-part-of .before in
-    let at-if1 = at-if2 .before in
-    let at-old-row = at-if1 .before in
-    let at-is-qualified = at-old-row .before .before in
-    let at-start = at-is-qualified .before .before .before .before .before .before .before .before .before in
-    let pre = at-start .pre in
-    let lies = ready-list (pre .0) _ (at-part-of .part-of .ensures) in
-    updates-done (pre .0) (pre .1 .0) _ _ (at-is-qualified .is-qualified .ensures) _ (at-old-row .old-row .ensures) (at-if1 .if1 .left) (at-if2 .if2 .left)
-    _ _ (at-mark-replaced .mark-replaced .ensures) (pre .1 .1 .1) _ lies _ (at-replace-rows .replace-rows .ensures) _ (at-a .a .given .1) _
-    (at-replace-side .replace-side .ensures)
+    let at-side = c .before .before in
+    let at-rows = at-side .before .before .before .before in
+    let at-a = at-rows .before .before .before .before in
+    let pre = start at-a .pre in
+    let lies = ready-list (pre .0) _ (listing at-a .part-of .ensures) in
+    updates-done (pre .0) (pre .1 .0) _ _ (tested at-a .is-qualified .ensures) _ (asked at-a .old-row .ensures) (passed at-a .before .if1 .left)
+    (passed at-a .if2 .left) _ _ (marking at-a .mark-replaced .ensures) (pre .1 .1 .1) _ (at-a .a .given .1) _ lies _ (at-rows .replace-rows .ensures) _
+    (at-side .replace-side .ensures)
 
 pub update-spec : {M : Type 1} → statement M
 update-spec =
@@ -178,6 +182,7 @@ update-spec =
     enum-told
     same-length-3
     returns-3
+    array-share-prefix-marked
     slice-aggregate-replace-rows
     replace-rows-requires
     replace-side-requires

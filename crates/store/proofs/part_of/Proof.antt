@@ -1,46 +1,22 @@
 -- `store::part_of` meets its contract, for a table and for the list.
 -- Assumes nothing.
-use borrow.Author.Tests.{lt-ltb, le-ltb}
-use Rattle.store.specs.Plans.{partOf}
+use mathlib.Core.Path.{_∙_}
+use Rattle.store.proofs.Plans.{table-at, list-at}
 use borrow.Author.Needs.{needs}
 use Rattle.store.proofs.part_of.Statement.{statement}
 use Rattle.store.proofs.part_of.Tie as tie
 
-mul-start : tie.Need-mul-start
-mul-start c = search needs
-
-element-copy-out-start : tie.Need-element-copy-out-start
-element-copy-out-start c = search needs
-
-mul-columns : tie.Need-mul-columns
-mul-columns c = search needs
-
-element-copy-out-columns : tie.Need-element-copy-out-columns
-element-copy-out-columns c = search needs
-
-mul-room : tie.Need-mul-room
-mul-room c = search needs
-
-element-copy-out-room : tie.Need-element-copy-out-room
-element-copy-out-room c = search needs
+part-at-requires : tie.Need-part-at-requires
+part-at-requires c κs = search needs
 
 returns : tie.Need-returns
-unfolding partOf
-returns c = rw (lt-ltb _ _ (c .if1 .taken))
+returns c = c .part-at .ensures ∙ table-at _ _ (c .before .before .before .before .before .if1 .taken)
+
+part-at-requires-2 : tie.Need-part-at-requires-2
+part-at-requires-2 c κs = search needs
 
 returns-2 : tie.Need-returns-2
-unfolding partOf
-returns-2 c = rw (le-ltb _ _ (c .if1 .left))
+returns-2 c = c .part-at2 .ensures ∙ list-at _ _ (c .before .before .before .before .before .if1 .left)
 
 pub part-of-spec : {M : Type 1} → statement M
-part-of-spec =
-    tie.close
-    (tie.spec
-    mul-start
-    element-copy-out-start
-    mul-columns
-    element-copy-out-columns
-    mul-room
-    element-copy-out-room
-    returns
-    returns-2)
+part-of-spec = tie.close (tie.spec part-at-requires returns part-at-requires-2 returns-2)
