@@ -1,4 +1,5 @@
 // The face: the calls in one place, exported to C and Rust. A call's result is its number; what else it answers goes to words that the caller lends.
+#![tactic(auto)]
 ghost use Rattle.std.specs.Prelude.{◌≡◌, ◌+◌, ◌*◌, ◌≤◌, ◌++◌, length};
 ghost use Rattle.meaning.specs.Limits.{most_tables, most_places};
 ghost use Rattle.meaning.specs.Change.{change};

@@ -1,4 +1,5 @@
 // The plan of a good sheet: what the calls need of it, as arrays table by table, beside the verdict.
+#![tactic(auto)]
 mod marks;
 mod outward;
 
