@@ -12,7 +12,7 @@ use sheet::{COLUMNS, PLACES, TABLES, Verdict};
 use sheet_plan::{Plan, mark_of};
 
 // What is printed of the plan, with each table's place and room. Every other field is zero where the sheet is refused.
-#[derive(Drop)]
+#[derive(Clone, Copy)]
 pub struct PlanAnswer {
     pub number: u64,
     pub tables: usize,

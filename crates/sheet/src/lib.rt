@@ -22,7 +22,7 @@ pub use rules::{has_column, listing_of};
 pub use tree::edge_into;
 use tree::tree_ok;
 
-#[derive(Drop)]
+#[derive(Clone, Copy)]
 pub enum Verdict {
     Good,
     Refused(u64),
