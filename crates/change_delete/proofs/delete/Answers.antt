@@ -1,0 +1,94 @@
+-- `delete` meets its contract.
+-- Assumes nothing.
+use Rattle.list_part.proofs.Lists.{list-kept}
+use Prim.Native.Nat.{ℕ}
+use mathlib.Core.Path.{sym}
+use lib.ListN.{length-replicate}
+use lib.Seq.{length-take-le}
+use Rattle.change_laws.proofs.Halves.{ready-good, ready-ground, ready-list, ready-table, ready-tables, half-modelled}
+use Rattle.change_delete.proofs.Deleting.{taken-few, taken-run, deletes-contradicts-side, deletes-none, deletes-contradicts-list, deletes-done}
+use native.Mathlib.Omega.{arith}
+use Rattle.change_delete.proofs.delete.Goals as goal
+
+pub is_qualified-qualified-requires : goal.is_qualified-qualified-requires
+is_qualified-qualified-requires c =
+    record {
+      sides_laid = (ready-ground c.requires.ready).legible.laid;
+      lent = c.requires.lent;
+    }
+
+pub old_row-requires : goal.old_row-requires
+old_row-requires c =
+    record {
+      good_plan = c.requires.ready.planned;
+      t_bound = ready-table c.requires.ready c.requires.lent;
+      r_len = c.requires.lent.wide;
+      t = c.requires.ready.sound;
+      qualified_value = c.is_qualified-qualified.ensures;
+    }
+
+pub returns-then-not-old_row : goal.returns-then-not-old_row
+returns-then-not-old_row c =
+    deletes-contradicts-side c.requires.ready c.requires.lent _ c.is_qualified-qualified.ensures _ c.old_row.ensures c.if-not-old_row.true
+
+pub returns-then-not-qualified : goal.returns-then-not-qualified
+returns-then-not-qualified c =
+    deletes-none c.requires.ready c.requires.lent _ c.is_qualified-qualified.ensures _ c.old_row.ensures c.if-not-old_row.false c.if-not-qualified.true
+
+pub part_of-list-requires : goal.part_of-list-requires
+part_of-list-requires c =
+    let few = ready-tables c.requires.ready in
+    record {
+      number_le_tables = few.1;
+      tables_le_most_tables = few.0;
+    }
+
+pub mark_ways-a-requires : goal.mark_ways-a-requires
+mark_ways-a-requires c =
+    record {
+      ground = ready-ground c.requires.ready;
+      t = c.requires.ready.sound;
+      lies = ready-list c.requires.ready _ c.part_of-list.ensures;
+      lent = c.requires.lent;
+      marked_len = length-replicate {A = ℕ} 4096 0;
+    }
+
+pub returns-in_default : goal.returns-in_default
+returns-in_default c =
+    deletes-contradicts-list c.requires.ready c.requires.lent _ c.is_qualified-qualified.ensures _ c.old_row.ensures c.if-not-old_row.false
+    c.if-not-qualified.false _ _ c.mark_ways-a.ensures c.in_default.is
+
+pub slice_bounds-marked-end : goal.slice_bounds-marked-end
+slice_bounds-marked-end c =
+    omega (
+      arith,
+      taken-few c.requires.ready c.requires.lent _ (ready-list c.requires.ready _ c.part_of-list.ensures) _ _ c.mark_ways-a.ensures _ c.in-All.is,
+      c.marked-2-1.given,
+    )
+
+pub slice_bounds-take_marked-end : goal.slice_bounds-take_marked-end
+slice_bounds-take_marked-end c = sym (length-take-le _ _ (array-share-prefix-marked c))
+
+pub take_marked-requires : goal.take_marked-requires
+take_marked-requires c =
+    let lies = ready-list c.requires.ready _ c.part_of-list.ensures in record {
+      kept = list-kept _ (ready-good c.requires.ready) _ c.requires.ready.sound _ lies;
+      numbers = taken-run c.requires.ready c.requires.lent _ lies _ _ c.mark_ways-a.ensures _ c.in-All.is;
+    }
+
+pub take_side-requires : goal.take_side-requires
+take_side-requires c =
+    let lies = ready-list c.requires.ready _ c.part_of-list.ensures in
+    record {
+      good_plan = c.requires.ready.planned;
+      t_bound = ready-table c.requires.ready c.requires.lent;
+      r_len = c.requires.lent.wide;
+      modelled = half-modelled c.requires.ready _ lies _ _ c.take_marked.ensures;
+    }
+
+pub returns : goal.returns
+returns c =
+    let lies = ready-list c.requires.ready _ c.part_of-list.ensures in
+    deletes-done c.requires.ready c.requires.lent _ c.is_qualified-qualified.ensures _ c.old_row.ensures c.if-not-old_row.left c.if-not-qualified.left _ _
+    c.mark_ways-a.ensures _ lies _ c.in-All.is _
+    c.take_marked.ensures _ c.take_side.ensures

@@ -1,0 +1,92 @@
+-- `insert` meets its contract.
+-- Assumes nothing.
+use Rattle.change_laws.proofs.Halves.{ready-ground, ready-list, ready-table, half-modelled}
+use Rattle.change_insert.proofs.Inserting.{inserts-contradicts, inserts-none, inserts-no-room-side, inserts-no-room-list}
+use Rattle.change_insert.proofs.Inserting.{Insertable, insertable, half_room, inserts-done}
+use mathlib.Core.Path.{◌≡◌}
+use Prim.Native.Nat.{ℕ}
+use Rattle.change_added.specs.declared.Added.TheVariants.{All}
+use Rattle.change_insert.proofs.insert.Goals as goal
+
+pub new_key-requires : goal.new_key-requires
+new_key-requires c =
+    record {
+      good_plan = c.requires.ready.planned;
+      t_bound = ready-table c.requires.ready c.requires.lent;
+      r_len = c.requires.lent.wide;
+      t = c.requires.ready.sound;
+    }
+
+pub returns-then-not-new_key : goal.returns-then-not-new_key
+returns-then-not-new_key c =
+    inserts-contradicts c.requires.ready c.requires.lent _ c.new_key.ensures c.if-not-new_key.true
+
+pub is_qualified-requires : goal.is_qualified-requires
+is_qualified-requires c =
+    record {
+      sides_laid = (ready-ground c.requires.ready).legible.laid;
+      lent = c.requires.lent;
+    }
+
+pub returns-then-not-is_qualified : goal.returns-then-not-is_qualified
+returns-then-not-is_qualified c =
+    inserts-none c.requires.ready c.requires.lent _ c.new_key.ensures c.if-not-new_key.false _ c.is_qualified.ensures
+    c.if-not-is_qualified.true
+
+pub has_room-requires : goal.has_room-requires
+has_room-requires c =
+    record {
+      good_plan = c.requires.ready.planned;
+      t_bound = ready-table c.requires.ready c.requires.lent;
+      t = c.requires.ready.sound;
+    }
+
+pub returns-then-not-has_room : goal.returns-then-not-has_room
+returns-then-not-has_room c =
+    inserts-no-room-side c.requires.ready c.requires.lent _ c.new_key.ensures c.if-not-new_key.false _
+    c.is_qualified.ensures c.if-not-is_qualified.false _ c.has_room.ensures c.if-not-has_room.true
+
+pub add_ways-added-requires : goal.add_ways-added-requires
+add_ways-added-requires c =
+    record {
+      ground = ready-ground c.requires.ready;
+      lent = c.requires.lent;
+      adding = record { sound = c.requires.ready.sound; lies = ready-list c.requires.ready _ c.part_of-list.ensures };
+    }
+
+pub put_side-requires : goal.put_side-requires
+put_side-requires c =
+    let admitted : (k : ℕ) → c.add_ways-added.result ≡ All k
+        → Insertable c.args.sheet.now c.args.store.now c.args.t2 c.args.table c.args.row.now
+        c.part_of-list.result k =
+        λ k told. let gained = rw told at c.add_ways-added.ensures in
+        insertable c.requires.ready c.requires.lent _ c.new_key.ensures c.if-not-new_key.false _ c.is_qualified.ensures
+        c.if-not-is_qualified.false _ c.has_room.ensures c.if-not-has_room.false _ (ready-list c.requires.ready _ c.part_of-list.ensures) k
+        gained.0 gained.1 in
+    let p = admitted _ c.in-All.is in
+    let written = (rw c.in-All.is at c.add_ways-added.ensures).2 in record {
+      good_plan = p.ready.planned;
+      t_bound = ready-table p.ready p.lent;
+      r_len = p.lent.wide;
+      modelled = half-modelled p.ready _ p.lies _ _ written;
+      t = half_room p _ written;
+    }
+
+pub returns-in-All : goal.returns-in-All
+returns-in-All c =
+    let admitted : (k : ℕ) → c.add_ways-added.result ≡ All k
+        → Insertable c.args.sheet.now c.args.store.now c.args.t2 c.args.table c.args.row.now
+        c.part_of-list.result k =
+        λ k told. let gained = rw told at c.add_ways-added.ensures in
+        insertable c.requires.ready c.requires.lent _ c.new_key.ensures c.if-not-new_key.false _ c.is_qualified.ensures
+        c.if-not-is_qualified.false _ c.has_room.ensures c.if-not-has_room.false _ (ready-list c.requires.ready _ c.part_of-list.ensures) k
+        gained.0 gained.1 in
+    let written = (rw c.in-All.is at c.add_ways-added.ensures).2 in
+    inserts-done (admitted _ c.in-All.is) _ written _ c.put_side.ensures
+
+pub returns-in-NoRoom : goal.returns-in-NoRoom
+returns-in-NoRoom c =
+    let refused = rw c.in-NoRoom.is at c.add_ways-added.ensures in
+    inserts-no-room-list c.requires.ready c.requires.lent _ c.new_key.ensures c.if-not-new_key.false _
+    c.is_qualified.ensures c.if-not-is_qualified.false _ c.has_room.ensures c.if-not-has_room.false _
+    (ready-list c.requires.ready _ c.part_of-list.ensures) refused.0 _ refused.1

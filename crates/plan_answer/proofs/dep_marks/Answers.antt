@@ -1,0 +1,15 @@
+-- `dep_marks` meets its contract. The loop's invariant: the places before i are marked.
+-- Assumes nothing.
+use Rattle.lists.proofs.Loops.{filled_more, filled-end}
+use Rattle.plan_answer.specs.Answers.{dep_of}
+use Rattle.plan_answer.proofs.Marks.{dep-mark}
+use native.Mathlib.Omega.{arith}
+use Rattle.plan_answer.proofs.dep_marks.Goals as goal
+
+pub loop-i-preserved : goal.loop-i-preserved
+loop-i-preserved c =
+    (omega arith, filled_more _ _ _ _ _ c.loop-i.invariant.1 (dep-mark _ _ _ _ c.depends.ensures c.mark_of.ensures))
+
+pub returns : goal.returns
+unfolding dep_of
+returns c = filled-end _ _ _ _ _ c.loop-i.invariant.0 c.loop-i-test.false c.loop-i.invariant.1

@@ -1,0 +1,13 @@
+-- `need_marks` meets its contract. The loop's invariant: the places before i are marked.
+-- Assumes nothing.
+use Rattle.lists.proofs.Loops.{filled_more, filled-end}
+use Rattle.plan_answer.specs.Answers.{need_at, need_of}
+use native.Mathlib.Omega.{arith}
+use Rattle.plan_answer.proofs.need_marks.Goals as goal
+
+pub loop-i-preserved : goal.loop-i-preserved
+loop-i-preserved c = (omega arith, filled_more _ _ _ _ _ c.loop-i.invariant.1 c.need_at.ensures)
+
+pub returns : goal.returns
+unfolding need_of
+returns c = filled-end _ _ _ _ _ c.loop-i.invariant.0 c.loop-i-test.false c.loop-i.invariant.1

@@ -1,0 +1,16 @@
+-- `edges_ok` meets its contract.
+-- Assumes nothing.
+use mathlib.Core.Path.{sym, ◌∙◌}
+use mathlib.Core.Bool.{true}
+use Rattle.lists.proofs.Loops.{every_more, every-fails, every-end}
+use native.Mathlib.Omega.{arith}
+use Rattle.sheet.proofs.rules.edges_ok.Goals as goal
+
+pub loop-k-preserved : goal.loop-k-preserved
+loop-k-preserved c = (omega arith, every_more _ _ c.loop-k.invariant.1 (sym c.edge_ok.ensures ∙ c.if-edge_ok.true))
+
+pub returns-else-edge_ok : goal.returns-else-edge_ok
+returns-else-edge_ok c = sym (every-fails _ _ _ (omega arith) (sym c.edge_ok.ensures ∙ c.if-edge_ok.false))
+
+pub returns : goal.returns
+returns c = sym (every-end _ _ _ (omega arith) (omega arith) c.loop-k.invariant.1)

@@ -1,0 +1,14 @@
+-- `widths_ok` meets its contract.
+-- Assumes nothing.
+use Prim.Native.Nat.{◌≤◌, ◌-◌}
+use mathlib.Core.Path.{◌≡◌}
+use mathlib.Core.Bool.{true}
+use Rattle.lists.specs.Loops.{every}
+use Rattle.sheet.specs.Tests.{width_passes}
+use Rattle.sheet.proofs.rules.widths_ok.Given as goal
+
+abbrev pub invariant-loop-t : goal.invariant-loop-t
+invariant-loop-t l = (l.t ≤ l.n) × (every (width_passes l.sheet) l.t ≡ true)
+
+abbrev pub decreases-loop-t : goal.decreases-loop-t
+decreases-loop-t l = l.n - l.t

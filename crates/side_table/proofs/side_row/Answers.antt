@@ -1,0 +1,56 @@
+-- `side_table::side_row` meets its contract. The invariant: the first j shown columns are written.
+-- Assumes nothing.
+use Prim.Native.Nat.{◌+◌, ◌*◌, ◌<◌}
+use mathlib.Core.Path.{refl}
+use lib.ListN.{length-set}
+use Rattle.lists.specs.Loops.{filled}
+use Rattle.lists.proofs.Loops.{filled_more}
+use Rattle.side_table.proofs.Shown.{shown-place, shown-column, shown-value, shown-end}
+use borrow.Author.Rules.{rules}
+use native.Mathlib.Omega.{arith}
+use Rattle.side_table.proofs.side_row.Goals as goal
+
+pub loop-j-init : goal.loop-j-init
+unfolding filled
+loop-j-init c = (search rules, search rules, refl)
+
+pub overflow_mul-c : goal.overflow_mul-c
+overflow_mul-c c =
+    let place : 8 * c.args.t + c.loop-j.j < 64 =
+        shown-place c.requires.good_plan _ c.requires.t_bound _ _ c.requires.row_len c.loop-j-test.true in
+    omega (arith, place)
+
+pub overflow_add-c : goal.overflow_add-c
+overflow_add-c c =
+    let place : 8 * c.args.t + c.loop-j.j < 64 =
+        shown-place c.requires.good_plan _ c.requires.t_bound _ _ c.requires.row_len c.loop-j-test.true in
+    omega (arith, place)
+
+pub offset_bounds-plan-t : goal.offset_bounds-plan-t
+offset_bounds-plan-t c =
+    let place : 8 * c.args.t + c.loop-j.j < 64 =
+        shown-place c.requires.good_plan _ c.requires.t_bound _ _ c.requires.row_len c.loop-j-test.true in
+    omega (arith, place)
+
+pub bounds-plan-t : goal.bounds-plan-t
+bounds-plan-t c =
+    let place : 8 * c.args.t + c.loop-j.j < 64 =
+        shown-place c.requires.good_plan _ c.requires.t_bound _ _ c.requires.row_len c.loop-j-test.true in
+    omega (arith, place)
+
+pub offset_bounds-r-c : goal.offset_bounds-r-c
+offset_bounds-r-c c =
+    omega (arith, shown-column c.requires.good_plan _ c.requires.t_bound _ _ c.requires.row_len c.loop-j-test.true _ _ c.requires.r_len refl)
+
+pub bounds-r-c : goal.bounds-r-c
+bounds-r-c c =
+    omega (arith, shown-column c.requires.good_plan _ c.requires.t_bound _ _ c.requires.row_len c.loop-j-test.true _ _ c.requires.r_len refl)
+
+pub loop-j-preserved : goal.loop-j-preserved
+loop-j-preserved c =
+    let value = shown-value c.requires.good_plan _ c.requires.t_bound _ _ c.requires.row_len c.loop-j-test.true _ _ _ refl refl in
+    (omega arith, simp length-set c.loop-j.invariant.1, filled_more _ _ _ _ _ c.loop-j.invariant.2 value)
+
+pub returns : goal.returns
+returns c =
+    shown-end _ _ _ _ _ _ _ c.requires.row_len refl c.loop-j.invariant.0 c.loop-j-test.false c.loop-j.invariant.2
