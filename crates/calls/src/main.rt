@@ -1,4 +1,5 @@
 // Answers calls that come as words on standard input, one after another, until it ends. docs/CALLS.md has the layout.
+#![tactic(auto)]
 ghost use Rattle.std.specs.Prelude.{◌+◌, ◌*◌, ◌≤◌, length};
 
 use libc::{STDERR_FILENO, STDIN_FILENO, STDOUT_FILENO};

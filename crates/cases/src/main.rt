@@ -11,6 +11,7 @@
 //     largest                  a fill of a store of its own from the largest base run
 // A call prints a line: what it is, its number, of a fill and a change also taken and added, and behind bars the words: all that a
 // fill leaves, those that show hands back, the changed table's side table and the list, some of the largest store.
+#![tactic(auto)]
 mod largest;
 
 ghost use Rattle.std.specs.Prelude.{◌<◌, ◌≤◌, length};

@@ -22,7 +22,7 @@ use Rattle.laws.proofs.Stores.{model-side}
 use Rattle.effects.specs.Applied.{applied, done, nothing, walk_rows, Marked}
 use Rattle.effects.proofs.Rooms.{length-takes-le, side-room, list-room}
 use Rattle.effects.proofs.Cases.{applied-contradicts, applied-done, applied-nothing, done-same}
-use Rattle.effects.proofs.Rows.{list-rising, walk_rows}
+use Rattle.effects.proofs.Rows.{list-rising, walk_rows_lem}
 
 module _ (s : Sheet) (g : Good s) (ws : Words) (ok : T (sound s ws)) (t : ℕ) (l : t < s.n) (r o : Row) where
   -- 8: its shown columns are missing, or its key is there though it isn't qualified
@@ -44,7 +44,7 @@ module _ (s : Sheet) (g : Good s) (ws : Words) (ok : T (sound s ws)) (t : ℕ) (
       -- the store agrees exactly if the walks' rows stand on the list as often
       agree : agrees s (model_of s ws) (change_of 2 t r o) ≡ has_rows (walk_rows s (model_of s ws) t r) (rows_at s ws s.n)
       unfolding agrees effect delete_effect model_of
-      agree = rw (old, q) (has_same (rows_through s (model_of s ws) t r) (walk_rows s (model_of s ws) t r) (rows_at s ws s.n) (walk_rows s g ws ok t l r (is_t q)))
+      agree = rw (old, q) (has_same (rows_through s (model_of s ws) t r) (walk_rows s (model_of s ws) t r) (rows_at s ws s.n) (walk_rows_lem s g ws ok t l r (is_t q)))
 
       -- 8: they aren't there as often
       pub delete-contradicts-list : has_rows (walk_rows s (model_of s ws) t r) (rows_at s ws s.n) ≡ false → applied s ws (change_of 2 t r o) ≡ refused contradiction ws
@@ -56,7 +56,7 @@ module _ (s : Sheet) (g : Good s) (ws : Words) (ok : T (sound s ws)) (t : ℕ) (
           ≡ done s ws t (length (walk_rows s (model_of s ws) t r)) 0 (take_rows (side_row s t r) (rows_at s ws t)) (spared (is_marked numbers) (rows_at s ws s.n))
       unfolding delete_effect put_rows model_of
       delete-done numbers h =
-          let same = walk_rows s g ws ok t l r (is_t q) in
+          let same = walk_rows_lem s g ws ok t l r (is_t q) in
           let out = rows_through s (model_of s ws) t r in
           applied-done s g ws ok (change_of 2 t r o) l (agree ∙ T→≡ _ h.there) (delete_effect s (model_of s ws) t r) effect_is
           (omega (arith, length-takes-le (side_row s t r) (rows_of (model_of s ws).sides t), side-room s g ws ok t l))

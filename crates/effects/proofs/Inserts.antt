@@ -27,7 +27,7 @@ use Rattle.walks.proofs.Marks.{puts-sorted}
 use Rattle.effects.specs.Applied.{applied, done, nothing, walk_rows}
 use Rattle.effects.proofs.Rooms.{list_after}
 use Rattle.effects.proofs.Cases.{applied-contradicts, applied-no-room, applied-done, applied-nothing, done-same}
-use Rattle.effects.proofs.Rows.{list-rising, walk_rows, side-row-one}
+use Rattle.effects.proofs.Rows.{list-rising, walk_rows_lem, side-row-one}
 
 module _ (s : Sheet) (g : Good s) (ws : Words) (ok : T (sound s ws)) (t : ℕ) (l : t < s.n) (o r : Row) where
   -- 8: the key stands in the kept side table
@@ -55,7 +55,7 @@ module _ (s : Sheet) (g : Good s) (ws : Words) (ok : T (sound s ws)) (t : ℕ) (
       effect_is = rw q
 
       many : length (rows_through s (model_of s ws) t r) ≡ length (walk_rows s (model_of s ws) t r)
-      many = same_length (rows_through s (model_of s ws) t r) (walk_rows s (model_of s ws) t r) (walk_rows s g ws ok t l r (is_t q))
+      many = same_length (rows_through s (model_of s ws) t r) (walk_rows s (model_of s ws) t r) (walk_rows_lem s g ws ok t l r (is_t q))
 
       side-is : side_after (model_of s ws) t (insert_effect s (model_of s ws) t r) ≡ put_rows (side_row s t r) (rows_at s ws t)
       unfolding insert_effect take_rows
@@ -73,7 +73,7 @@ module _ (s : Sheet) (g : Good s) (ws : Words) (ok : T (sound s ws)) (t : ℕ) (
       list-is =
           puts-sorted (rows_through s (model_of s ws) t r) (rows_at s ws s.n) (rows_at s ws s.n ++ walk_rows s (model_of s ws) t r) (list-rising s g ws ok)
           (λ f. total-append f (rows_at s ws s.n) (walk_rows s (model_of s ws) t r)
-          ∙ ap (λ k. total f (rows_at s ws s.n) + k) (sym (walk_rows s g ws ok t l r (is_t q) f))
+          ∙ ap (λ k. total f (rows_at s ws s.n) + k) (sym (walk_rows_lem s g ws ok t l r (is_t q) f))
           ∙ sym (total-append f (rows_at s ws s.n) (rows_through s (model_of s ws) t r)))
 
       -- 9: the side table is full, or the list has not so much room

@@ -27,7 +27,7 @@ use Rattle.walks.proofs.Updates.{update-rows}
 use Rattle.effects.specs.Applied.{applied, done, nothing, walk_rows, replaced_rows, Marked}
 use Rattle.effects.proofs.Rooms.{list_after, side-room, list-room}
 use Rattle.effects.proofs.Cases.{applied-contradicts, applied-done, applied-nothing, done-same}
-use Rattle.effects.proofs.Rows.{list-rising, walk_rows, side-row-long, side-has}
+use Rattle.effects.proofs.Rows.{list-rising, walk_rows_lem, side-row-long, side-has}
 
 module _ (s : Sheet) (g : Good s) (ws : Words) (ok : T (sound s ws)) (t : ℕ) (l : t < s.n) (r r' : Row) where
   -- 8: its shown columns are missing, or its key is there though it isn't qualified
@@ -58,7 +58,7 @@ module _ (s : Sheet) (g : Good s) (ws : Words) (ok : T (sound s ws)) (t : ℕ) (
           go : (b : Bool)
               → Same (cond b (rows_through s (model_of s ws) t r) (rows_found s (model_of s ws) t r))
               (cond b (walk_rows s (model_of s ws) t r) (rows_found s (model_of s ws) t r))
-          go true = walk_rows s g ws ok t l r (is_t q)
+          go true = walk_rows_lem s g ws ok t l r (is_t q)
           go false = λ f. refl
 
       -- the store agrees exactly if the rows to be replaced stand on the list as often

@@ -93,9 +93,8 @@ pub fn oratjolet_plan(sheet: &[u64], answer: &mut [u64; PLAN_WORDS]) -> u64
     ensures { PlanLeft sheet.now result answer.new }
 {
     let a = plan_answer::plan_of(sheet);
-    let number = a.number;
     put_plan(a, answer);
-    number
+    a.number
 }
 
 // The show call: its number, and in the lent words where in the store the rows begin and how many words they are.

@@ -1,4 +1,5 @@
 // Prints the plan of the sheet that standard input says, or `refused` and the number.
+#![tactic(auto)]
 use libc::{STDIN_FILENO, STDOUT_FILENO};
 use text::Reader;
 

@@ -1,4 +1,5 @@
 // The plan call: any run of words to the whole plan, or to the number of the refusal.
+#![tactic(auto)]
 ghost use Rattle.std.specs.Prelude.{◌≡◌, ℕ, ◌≤◌, ◌<◌, length};
 ghost use Rattle.meaning.specs.Limits.{most_tables, most_places};
 ghost use Rattle.meaning.specs.Plan.{plan};
@@ -11,7 +12,7 @@ use sheet::{COLUMNS, PLACES, TABLES, Verdict};
 use sheet_plan::{Plan, mark_of};
 
 // What is printed of the plan, with each table's place and room. Every other field is zero where the sheet is refused.
-#[derive(Drop)]
+#[derive(Clone, Copy)]
 pub struct PlanAnswer {
     pub number: u64,
     pub tables: usize,

@@ -1,5 +1,6 @@
 // Runs barcodes that differ by 4,294,967,296, the value 2^64 - 1 and equal rows through regions, through the sorts and through an order by key,
 // and writes what stands there after each step.
+#![tactic(auto)]
 ghost use Rattle.std.specs.Prelude.{◌≡◌, ◌*◌, ◌/◌, ◌≤◌, length};
 ghost use Rattle.rows.specs.Regions.{Region};
 ghost use Rattle.rows.specs.Marks.{Run};

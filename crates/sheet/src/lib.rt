@@ -1,4 +1,5 @@
 // A sheet: its words read by number, and its check. Any run of words is good, or refused by number.
+#![tactic(auto)]
 mod limits;
 mod reading;
 mod rules;
@@ -21,7 +22,7 @@ pub use rules::{has_column, listing_of};
 pub use tree::edge_into;
 use tree::tree_ok;
 
-#[derive(Drop)]
+#[derive(Clone, Copy)]
 pub enum Verdict {
     Good,
     Refused(u64),

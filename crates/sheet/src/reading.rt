@@ -6,7 +6,7 @@ ghost use Rattle.sheet.specs.Numbered.{width_no, room_no};
 ghost use Rattle.sheet.specs.Read.{ReadsEdge, ReadsCondition, ReadsListing};
 
 // The child's column joins the parent's key.
-#[derive(Drop)]
+#[derive(Clone, Copy)]
 pub struct Edge {
     pub child: usize,
     pub column: usize,
@@ -15,7 +15,7 @@ pub struct Edge {
 }
 
 // lowest <= the column's value <= highest
-#[derive(Drop)]
+#[derive(Clone, Copy)]
 pub struct Condition {
     pub table: usize,
     pub column: usize,
@@ -23,7 +23,7 @@ pub struct Condition {
     pub highest: u64,
 }
 
-#[derive(Drop)]
+#[derive(Clone, Copy)]
 pub struct Listing {
     pub table: usize,
     pub column: usize,

@@ -1,4 +1,5 @@
 // The plan of a good sheet: what the calls need of it, as arrays table by table, beside the verdict.
+#![tactic(auto)]
 mod marks;
 mod outward;
 
@@ -17,7 +18,7 @@ use outward::order_of;
 use sheet::{COLUMNS, PARTS, PLACES, TABLES, Verdict};
 
 // Part t is table t's, part n (tables) the list's. Column sets have eight places for each table, from 8t on.
-#[derive(Drop)]
+#[derive(Clone, Copy)]
 pub struct Plan {
     pub tables: usize,
     pub root: usize,
@@ -40,7 +41,7 @@ pub struct Plan {
     pub places: [usize; PLACES],
 }
 
-#[derive(Drop)]
+#[derive(Clone, Copy)]
 pub struct Checked {
     pub verdict: Verdict,
     pub plan: Plan,

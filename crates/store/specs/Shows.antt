@@ -28,7 +28,7 @@ pub record Stands (sheet store : Words) (number : ℕ) (s : Stretch) : Type 0 wh
 
 -- where word k of a lent run lies in memory: a word has eight bytes
 abbrev pub word_at : Bor Words → ℕ → ℕ × ℕ
-word_at run k = (run.ptr.0, k * 8 + run.ptr.1)
+word_at run k = (run.ref_ptr.0, k * 8 + run.ref_ptr.1)
 
 -- "hands back the stretch of the store that holds those rows": no copy of it, and no other stretch with the same words
 pub record HandsBack (sheet : Words) (store : Bor Words) (part : ℕ) (rows : Bor Words) (number : ℕ) : Type 0 where

@@ -1,4 +1,5 @@
 // The store of a good sheet: sound or not, its parts shown and written, and what a call that may write it answers.
+#![tactic(auto)]
 ghost use Rattle.std.specs.Prelude.{◌≡◌, true, cond, ◌+◌, ◌<◌, ◌≤◌, T, eqb, length, set, take};
 ghost use Rattle.lists.specs.Totals.{one};
 ghost use Rattle.rows.specs.Rows.{rising, put_row, take_row};
@@ -15,14 +16,14 @@ use sheet::{PARTS, TABLES, Verdict};
 use sheet_plan::Plan;
 
 // What fill and change answer: rows taken from the list and rows added to it, or the number of the refusal.
-#[derive(Drop)]
+#[derive(Clone, Copy)]
 pub enum Answer {
     Done(u64, u64),
     Refused(u64),
 }
 
 // Where a part of the store lies: the place of its count, of its first word, its columns and its room.
-#[derive(Drop)]
+#[derive(Clone, Copy)]
 pub struct Part {
     pub slot: usize,
     pub start: usize,
@@ -31,7 +32,7 @@ pub struct Part {
 }
 
 // Where the rows stand that a show call hands back: their first word, and how many words they are; and the refusal's number, 0 if there is none.
-#[derive(Drop)]
+#[derive(Clone, Copy)]
 pub struct Stretch {
     pub refusal: u64,
     pub first: usize,

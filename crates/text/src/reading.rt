@@ -9,7 +9,7 @@ pub const HELD: usize = SHEET_WORDS + 1;
 
 // What has been read so far: the numbers that have ended, the number in hand if one has begun, and
 // whether the text is no text of numbers.
-#[derive(Drop)]
+#[derive(Clone, Copy)]
 pub struct Reader {
     pub words: [u64; HELD],
     pub many: usize,

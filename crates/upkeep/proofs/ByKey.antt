@@ -241,8 +241,8 @@ module _ (s : Sheet) (g : Good s) (fr : Frame s) (r : Row) (once : (t : ℕ) →
         (λ e m. ap₂ eqb (agree e.child e.column (tie.children e m)) (agree e.parent 0 (λ q. tie.keys))))
         (all_same (held_by way') (held_by way) s.conditions (λ d m. ap (within d) (agree d.table d.column (tie.conditions d m))))
 
-    same_row : with_columns s.listed R r' (list_row s way) ≡ list_row s way'
-    same_row =
+    same_row_lem : with_columns s.listed R r' (list_row s way) ≡ list_row s way'
+    same_row_lem =
         with_row s R r' way way' (λ l k.
         by-set [] (λ t x. cond (eqb t R) (at r' l.column) (at (row_in way t) l.column) ≡ at x l.column) way R r' R-in
         (ap (λ b. cond b (at r' l.column) (at (row_in way R) l.column)) (T→≡ (eqb R R) (eq→eqb {m = R} refl)))
@@ -255,5 +255,5 @@ module _ (s : Sheet) (g : Good s) (fr : Frame s) (r : Row) (once : (t : ℕ) →
       ∙ total-way_rows s (alone fr (r ∷ [])) (λ row. f (with_columns s.listed R r' row))
       ∙ total-ways (λ way. cond (is_way s way) (f (with_columns s.listed R r' (list_row s way))) 0)
       (λ way. cond (is_way s (set way R r')) (f (list_row s (set way R r'))) 0) (alone fr (r ∷ []))
-      (λ way k. ap₂ (λ b row. cond b (f row) 0) (sym (same_way r' tie way k)) (same_row r' tie way k))
+      (λ way k. ap₂ (λ b row. cond b (f row) 0) (sym (same_way r' tie way k)) (same_row_lem r' tie way k))
       ∙ sym (total-way_rows s (alone fr (r' ∷ [])) f ∙ choices-swap (λ way. cond (is_way s way) (f (list_row s way)) 0) A R r r' l)

@@ -289,9 +289,9 @@ module _ (s : Sheet) (g : Good s) (fr : Frame s) where
   new-key r new = F→not (has_key (key r) (rows_of (m []).sides R)) (λ h. new (key-select (qualified s (F []) R) (key r) rest (side-keys [] (key r) h)))
 
   -- nor a row that is there
-  pub old_row : (r : Row) → (T (has_key (key r) rest) → ⊥) → T (old_row s (m (r ∷ [])) R r)
+  pub old_row_lem : (r : Row) → (T (has_key (key r) rest) → ⊥) → T (old_row s (m (r ∷ [])) R r)
   unfolding old_row side_row put_rows
-  old_row r new =
+  old_row_lem r new =
       ⊎_elim
       (λ k. or_inr (not (kept s R)) (cond (qualifies s (m (r ∷ [])) R r) (has_row shown-r rows) (not (has_key (key r) rows)))
       (⊎_elim

@@ -32,7 +32,7 @@ use Rattle.laws.proofs.Ways.{way_rows}
 use Rattle.laws.proofs.Meanings.{Met, Lawful, parents-get, lawful-set, meaning-same}
 use Rattle.laws.proofs.Changes.{by-kind}
 use Rattle.laws.proofs.Updates.{tied-get}
-use Rattle.upkeep.proofs.Replace.{Frame, having, alone, Judges, rows_other, ways-of, ways-of-same, Moves, replaced, replaced-has, new-key, old_row}
+use Rattle.upkeep.proofs.Replace.{Frame, having, alone, Judges, rows_other, ways-of, ways-of-same, Moves, replaced, replaced-has, new-key, old_row_lem}
 use Rattle.upkeep.proofs.Insert.{judges-in, judges-out, insert-moves, delete-moves}
 use Rattle.upkeep.proofs.Update.{judges-new, update-moves, update-show}
 
@@ -177,7 +177,7 @@ module _ (s : Sheet) (g : Good s) (B : Tables) (law : Lawful s B) (R : ℕ) (ins
           let moves = delete-moves s g (frame rest) r deleted-lawful gone par in
           step (r ∷ []) rest (same-take r (rows_of B R) has) [] 2 r r' refl (judges-out s g (frame rest) r deleted-lawful gone par) moves
           (and_both (old_row s m R r) (has_rows (effect s m (change_of 2 R r r')).list_out m.list)
-          (old_row s g (frame rest) r gone) (replaced-has s g (frame rest) (r ∷ []) [] _ moves))
+          (old_row_lem s g (frame rest) r gone) (replaced-has s g (frame rest) (r ∷ []) [] _ moves))
           deleted-lawful (only r) (key-not r rest gone) (λ y m. absurd m) (λ m. none-empty r' none (rest_in r' m))
 
     -- an update: another row with the same key and tied columns
@@ -211,7 +211,7 @@ module _ (s : Sheet) (g : Good s) (B : Tables) (law : Lawful s B) (R : ℕ) (ins
           let moves = update-moves s g (frame rest) r r' tie once gone in
           step (r ∷ []) rest same (r' ∷ []) 3 r r' refl (judges-new s g (frame rest) r r' tie) moves
           (facts-make (old_row s m R r ∷ found_show s m R r ∷ has_rows (effect s m (change_of 3 R r r')).list_out m.list ∷ []) (
-            old_row s g (frame rest) r gone,
+            old_row_lem s g (frame rest) r gone,
             (
               update-show s g (frame rest) r r' tie once gone,
               (replaced-has s g (frame rest) (r ∷ []) (r' ∷ []) _ moves, tt),
