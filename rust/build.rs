@@ -14,8 +14,7 @@ fn main() {
     let os = env::var("CARGO_CFG_TARGET_OS").unwrap_or_default();
     if arch != "x86_64" || os != "linux" {
         stop(&format!(
-            "the proved calls are x86-64 code for Linux, and this build is for {arch} {os}. \
-             On another machine run the programs through ./run, which starts them under the kit's emulator"
+            "the proved calls are x86-64 code for Linux, and this build is for {arch} {os}"
         ));
     }
     let folder = match env::var("ORATJOLET_LIB") {
@@ -32,21 +31,32 @@ fn main() {
     println!("cargo:rustc-link-lib=static=oratjolet");
 }
 
-// `rt staticlib oratjolet` proves what has changed and writes target/staticlib/liboratjolet.a of the repository.
+// `tools/library` proves what has changed and writes target/staticlib/liboratjolet.a of the repository.
 fn made() -> PathBuf {
     let top = Path::new(env!("CARGO_MANIFEST_DIR"))
         .parent()
         .expect("rust/ stands in the repository");
-    println!("cargo:rerun-if-changed={}", top.join("crates").display());
     println!(
         "cargo:rerun-if-changed={}",
         top.join("crates.txt").display()
     );
-    match Command::new("rt").args(["staticlib", "oratjolet"]).current_dir(top).output() {
+    // Not out/, where rt writes
+    for folder in top.join("crates").read_dir().into_iter().flatten().flatten() {
+        for part in ["src", "specs", "proofs"] {
+            let part = folder.path().join(part);
+            if part.is_dir() {
+                println!("cargo:rerun-if-changed={}", part.display());
+            }
+        }
+    }
+    match Command::new(top.join("tools/library")).output() {
         Ok(ran) if ran.status.success() => top.join("target/staticlib"),
-        Ok(ran) => stop(&format!("rt staticlib oratjolet failed:\n{}", String::from_utf8_lossy(&ran.stderr))),
+        Ok(ran) => stop(&format!(
+            "tools/library failed. It needs the Rattle kit's rt; or set ORATJOLET_LIB to a folder with liboratjolet.a:\n{}",
+            String::from_utf8_lossy(&ran.stderr)
+        )),
         Err(error) => stop(&format!(
-            "the Rattle kit's rt could not be started ({error}). Install the kit, or set ORATJOLET_LIB to a folder with liboratjolet.a"
+            "tools/library could not be started ({error}). Set ORATJOLET_LIB to a folder with liboratjolet.a"
         )),
     }
 }

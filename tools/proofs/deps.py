@@ -6,8 +6,6 @@ Run it at the top of the repository.
 import glob
 import re
 
-KIT = ["check", "libc", "io", "os", "bytes"]
-
 
 def source(name):
     files = glob.glob(f"crates/{name}/**/*.antt", recursive=True) + glob.glob(f"crates/{name}/**/*.rt", recursive=True)
@@ -15,14 +13,17 @@ def source(name):
 
 
 def line_of(line, order):
-    name, listed = line.split(":")
+    # NAME, or NAME staticlib
+    head, listed = line.split(":")
+    name = head.split()[0]
     text = source(name)
-    names = set(re.findall(r"Rattle·([a-z_0-9]+)[.·]", text)) | set(re.findall(r"\b([a-z_0-9]+)::", text))
-    rests_on = [n for n in order if n in names and n != name] + [n for n in KIT if n in listed.split()]
-    return " ".join([name + ":"] + rests_on)
+    names = set(re.findall(r"\bRattle\.([a-z_0-9]+)\.", text)) | set(re.findall(r"\b([a-z_0-9]+)::", text))
+    rests_on = [n for n in order if n in names and n != name] + [n for n in listed.split() if n not in order]
+    return " ".join([head + ":"] + rests_on)
 
 
 lines = open("crates.txt").read().split("\n")
-crates = [line.split(":")[0] for line in lines if ":" in line and not line.startswith("#")]
-out = [line_of(line, crates) if line.split(":")[0] in crates else line for line in lines]
+is_crate = [":" in line and not line.startswith("#") for line in lines]
+crates = [line.split(":")[0].split()[0] for line, one in zip(lines, is_crate) if one]
+out = [line_of(line, crates) if one else line for line, one in zip(lines, is_crate)]
 open("crates.txt", "w").write("\n".join(out))

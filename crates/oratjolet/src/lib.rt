@@ -1,5 +1,6 @@
-// The face: the calls in one place, exported to C and Rust. A call's result is its number; what else it answers goes to words that the caller lends.
+// The face: the calls in one place, which oratjolet_c exports to C and Rust. A call's result is its number; what else it answers goes to words that the caller lends.
 #![tactic(auto)]
+
 ghost use Rattle.std.specs.Prelude.{◌≡◌, ◌+◌, ◌*◌, ◌≤◌, ◌++◌, length};
 ghost use Rattle.meaning.specs.Limits.{most_tables, most_places};
 ghost use Rattle.meaning.specs.Change.{change};
@@ -13,7 +14,7 @@ use sheet::{PLACES, TABLES};
 use store::Answer;
 
 // What the plan call answers: four numbers, a mark for each table, three sets of marks, and where each table's part begins and its room.
-const PLAN_WORDS: usize = 4 + TABLES + 3 * PLACES + 2 * TABLES;
+pub const PLAN_WORDS: usize = 4 + TABLES + 3 * PLACES + 2 * TABLES;
 
 // Writes the words from `at` on, and answers where they end.
 fn put(words: &[u64], out: &mut [u64], at: usize) -> usize
@@ -88,8 +89,7 @@ fn put_plan(a: PlanAnswer, out: &mut [u64]) -> usize
 }
 
 // The plan call: its number, and the whole answer in the lent words.
-#[unsafe(no_mangle)]
-pub extern "C" fn oratjolet_plan(sheet: &[u64], answer: &mut [u64; PLAN_WORDS]) -> u64
+pub fn oratjolet_plan(sheet: &[u64], answer: &mut [u64; PLAN_WORDS]) -> u64
     ensures { PlanLeft sheet.now result answer.new }
 {
     let a = plan_answer::plan_of(sheet);
@@ -98,8 +98,7 @@ pub extern "C" fn oratjolet_plan(sheet: &[u64], answer: &mut [u64; PLAN_WORDS]) 
 }
 
 // The show call: its number, and in the lent words where in the store the rows begin and how many words they are.
-#[unsafe(no_mangle)]
-pub extern "C" fn oratjolet_show(
+pub fn oratjolet_show(
     sheet: &[u64],
     store: &[u64],
     number: u64,
@@ -133,8 +132,7 @@ fn tell(a: Answer, taken: &mut u64, added: &mut u64) -> u64
 }
 
 // The fill call: its number, the rows taken from the list, 0, and those on it, and the store from the base tables.
-#[unsafe(no_mangle)]
-pub extern "C" fn oratjolet_fill(
+pub fn oratjolet_fill(
     sheet: &[u64],
     base: &[u64],
     store: &mut [u64],
@@ -148,8 +146,7 @@ pub extern "C" fn oratjolet_fill(
 }
 
 // The change call: its number, the rows taken from the list and added to it, and the store brought up to date.
-#[unsafe(no_mangle)]
-pub extern "C" fn oratjolet_change(
+pub fn oratjolet_change(
     sheet: &[u64],
     store: &mut [u64],
     kind: u64,
