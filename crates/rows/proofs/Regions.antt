@@ -10,7 +10,7 @@ use native.Mathlib.Numerals.{add-one}
 use lib.Dec.{T, eqb}
 use lib.ListN.{length, get_or, take, drop, set, replicate, length-replicate, length-append, length-take, length-drop, take-append-drop}
 use lib.Seq.{length-take-le, drop_at, drop-drop, set_split, take_all}
-use Rattle.lists.specs.Lists.{Words, at, all, flat}
+use Rattle.lists.specs.Lists.{Words, all, flat}
 use Rattle.lists.specs.Totals.{total, one}
 use Rattle.lists.proofs.Truth.{all_cons, all_first, all_rest, eqb→≡}
 use Rattle.rows.specs.declared.Found.{Found}
