@@ -1,77 +1,51 @@
 // Prints the plan of the sheet that standard input says, or `refused` and the number.
 #![tactic(auto)]
-use libc::{STDIN_FILENO, STDOUT_FILENO};
+
+use std::io;
+use std::io::Read;
 use text::Reader;
 
-#[derive(Drop)]
-enum Input {
-    More,
-    Ended,
-    Failed,
-}
-
-// What has been read, and whether there may be more.
+// What has been read, and whether the input has ended.
 #[derive(Drop)]
 struct Step {
     reader: Reader,
-    input: Input,
+    ended: bool,
 }
 
 // Reads once.
-fn read_some(reader: Reader) -> Step {
-    let mut buf = io::large_buffer();
-    let got = libc::read(STDIN_FILENO, &mut buf);
-    if got < 0 {
-        return Step {
+fn read_some(input: &mut impl Read, reader: Reader) -> io::Result<Step> {
+    let mut buf = [0u8; 65536];
+    let n = input.read(&mut buf)?;
+    if n == 0 {
+        return Ok(Step {
             reader,
-            input: Input::Failed,
-        };
+            ended: true,
+        });
     }
-    if got == 0 {
-        return Step {
-            reader,
-            input: Input::Ended,
-        };
-    }
-    let n = io::count(got, &buf);
     let r = reader.take_chunk(&buf[..n]);
-    Step {
+    Ok(Step {
         reader: r,
-        input: Input::More,
-    }
+        ended: false,
+    })
 }
 
 // A proved loop has to end, and nothing says that the input does: so the turns are counted down, from a number that no run uses up.
-fn read_all() -> Step {
-    let reader = Reader::new();
-    let mut step = Step {
-        reader,
-        input: Input::More,
-    };
-    let mut turns = u64::MAX;
-    while turns > 0 {
-        turns -= 1;
-        let reader = step.reader;
-        step = read_some(reader);
-        let input = step.input;
-        match input {
-            Input::More => {}
-            Input::Ended => return step,
-            Input::Failed => return step,
+fn read_all(input: &mut impl Read) -> io::Result<Reader> {
+    let mut reader = Reader::new();
+    for _ in 0..u64::MAX {
+        let step = read_some(input, reader)?;
+        reader = step.reader;
+        if step.ended {
+            break;
         }
     }
-    step
+    Ok(reader)
 }
 
-fn main() {
-    let step = read_all();
-    let input = step.input;
-    if let Input::Failed = input {
-        os::fail(b"standard input");
-        return;
-    }
-    let reader = step.reader;
+// A failed read or write is the error that it returns.
+fn main(rt: HostRuntime) -> io::Result<()> {
+    let reader = read_all(&mut rt.reader())?;
     let mut out = [0u8; text::PAGE];
     let n = text::reply(reader, &mut out);
-    io::write_all(STDOUT_FILENO, &out[..n]);
+    rt.write_all(&out[..n])
 }
