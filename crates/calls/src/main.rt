@@ -1,11 +1,12 @@
 // Answers calls that come as words on standard input, one after another, until it ends. docs/CALLS.md has the layout.
 #![tactic(auto)]
+
 ghost use Rattle.std.specs.Prelude.{◌+◌, ◌*◌, ◌≤◌, length};
 
-use libc::{STDERR_FILENO, STDIN_FILENO, STDOUT_FILENO};
+use std::io::Read;
 
 // How a call went: answered, or no call is left, or what is wrong with the input.
-#[derive(Drop)]
+#[derive(Clone, Copy)]
 enum Step {
     Answered,
     Ended,
@@ -72,15 +73,30 @@ fn least(a: usize, b: usize) -> usize
     if a < b { a } else { b }
 }
 
+// Reads until the bytes are full, the input ends or a read fails, and returns how many bytes it has put in front.
+fn read_full(input: &mut impl Read, bytes: &mut [u8]) -> usize
+    ensures { result ≤ length bytes.new }
+{
+    let mut done = 0;
+    while done < bytes.len() {
+        match input.read(&mut bytes[done..]) {
+            Ok(0) => break,
+            Ok(n) => done += n,
+            Err(_) => break,
+        }
+    }
+    done
+}
+
 // Reads as many words as there is place for. False if the input ends before.
-fn read_words(bytes: &mut [u8], words: &mut [u64]) -> bool {
+fn read_words(input: &mut impl Read, bytes: &mut [u8], words: &mut [u64]) -> bool {
     let mut done = 0;
     while done < words.len() {
         let n = least(words.len() - done, bytes.len() / 8);
         if n == 0 {
             return false;
         }
-        let got = io::read_full(STDIN_FILENO, &mut bytes[..8 * n]);
+        let got = read_full(input, &mut bytes[..8 * n]);
         if got < 8 * n {
             return false;
         }
@@ -90,7 +106,7 @@ fn read_words(bytes: &mut [u8], words: &mut [u64]) -> bool {
     true
 }
 
-fn write_words(bytes: &mut [u8], words: &[u64]) -> bool {
+fn write_words(rt: &impl Print, bytes: &mut [u8], words: &[u64]) -> bool {
     let mut done = 0;
     while done < words.len() {
         let n = least(words.len() - done, bytes.len() / 8);
@@ -98,7 +114,7 @@ fn write_words(bytes: &mut [u8], words: &[u64]) -> bool {
             return false;
         }
         encode(words, done, n, bytes);
-        if !io::write_all(STDOUT_FILENO, &bytes[..8 * n]) {
+        if rt.write_all(&bytes[..8 * n]).is_err() {
             return false;
         }
         done += n;
@@ -107,36 +123,43 @@ fn write_words(bytes: &mut [u8], words: &[u64]) -> bool {
 }
 
 // Writes an outcome: the call's number, two words of its answer, how many words follow, and these.
-fn reply(bytes: &mut [u8], number: u64, a: u64, b: u64, words: &[u64]) -> Step {
+fn reply(rt: &impl Print, bytes: &mut [u8], number: u64, a: u64, b: u64, words: &[u64]) -> Step {
     let head = [number, a, b, words.len() as u64];
-    if !write_words(bytes, &head) {
+    if !write_words(rt, bytes, &head) {
         return Step::Unwritten;
     }
-    if !write_words(bytes, words) {
+    if !write_words(rt, bytes, words) {
         return Step::Unwritten;
     }
     Step::Answered
 }
 
 // A function of its own, so that the answer's length needs no proof.
-fn reply_answer(bytes: &mut [u8], number: u64, answer: &[u64; 220]) -> Step {
-    reply(bytes, number, 0, 0, answer)
+fn reply_answer(rt: &impl Print, bytes: &mut [u8], number: u64, answer: &[u64; 220]) -> Step {
+    reply(rt, bytes, number, 0, 0, answer)
 }
 
-fn reply_plan(bytes: &mut [u8], sheet: &[u64]) -> Step {
+fn reply_plan(rt: &impl Print, bytes: &mut [u8], sheet: &[u64]) -> Step {
     let mut answer = [0u64; 220];
     let number = oratjolet::oratjolet_plan(sheet, &mut answer);
-    reply_answer(bytes, number, &answer)
+    reply_answer(rt, bytes, number, &answer)
 }
 
-fn reply_fill(bytes: &mut [u8], sheet: &[u64], base: &[u64], store: &mut [u64]) -> Step {
+fn reply_fill(
+    rt: &impl Print,
+    bytes: &mut [u8],
+    sheet: &[u64],
+    base: &[u64],
+    store: &mut [u64],
+) -> Step {
     let mut taken: u64 = 0;
     let mut added: u64 = 0;
     let number = oratjolet::oratjolet_fill(sheet, base, store, &mut taken, &mut added);
-    reply(bytes, number, taken, added, store)
+    reply(rt, bytes, number, taken, added, store)
 }
 
 fn reply_change(
+    rt: &impl Print,
     bytes: &mut [u8],
     sheet: &[u64],
     store: &mut [u64],
@@ -150,18 +173,19 @@ fn reply_change(
     let number = oratjolet::oratjolet_change(
         sheet, store, kind, table, old, new, &mut taken, &mut added,
     );
-    reply(bytes, number, taken, added, store)
+    reply(rt, bytes, number, taken, added, store)
 }
 
-fn reply_show(bytes: &mut [u8], sheet: &[u64], store: &[u64], part: u64) -> Step {
+fn reply_show(rt: &impl Print, bytes: &mut [u8], sheet: &[u64], store: &[u64], part: u64) -> Step {
     let mut first: u64 = 0;
     let mut count: u64 = 0;
     let number = oratjolet::oratjolet_show(sheet, store, part, &mut first, &mut count);
-    reply(bytes, number, first, count, store)
+    reply(rt, bytes, number, first, count, store)
 }
 
 // Reads the runs of a call whose head has been read. False if the input ends before.
 fn read_runs(
+    input: &mut impl Read,
     bytes: &mut [u8],
     sheet: &mut [u64],
     base: &mut [u64],
@@ -169,22 +193,23 @@ fn read_runs(
     old: &mut [u64],
     new: &mut [u64],
 ) -> bool {
-    if !read_words(bytes, sheet) {
+    if !read_words(input, bytes, sheet) {
         return false;
     }
-    if !read_words(bytes, base) {
+    if !read_words(input, bytes, base) {
         return false;
     }
-    if !read_words(bytes, store) {
+    if !read_words(input, bytes, store) {
         return false;
     }
-    if !read_words(bytes, old) {
+    if !read_words(input, bytes, old) {
         return false;
     }
-    read_words(bytes, new)
+    read_words(input, bytes, new)
 }
 
 fn answer(
+    rt: &impl Print,
     head: [u64; 8],
     bytes: &mut [u8],
     sheet: &[u64],
@@ -194,15 +219,17 @@ fn answer(
     new: &[u64],
 ) -> Step {
     match head[0] {
-        1 => reply_plan(bytes, sheet),
-        2 => reply_fill(bytes, sheet, base, store),
-        3 => reply_change(bytes, sheet, store, head[6], head[7], old, new),
-        4 => reply_show(bytes, sheet, store, head[6]),
+        1 => reply_plan(rt, bytes, sheet),
+        2 => reply_fill(rt, bytes, sheet, base, store),
+        3 => reply_change(rt, bytes, sheet, store, head[6], head[7], old, new),
+        4 => reply_show(rt, bytes, sheet, store, head[6]),
         0 | 5..=u64::MAX => Step::Unknown,
     }
 }
 
 fn read_and_answer(
+    rt: &impl Print,
+    input: &mut impl Read,
     head: [u64; 8],
     bytes: &mut [u8],
     sheet: &mut [u64],
@@ -211,14 +238,16 @@ fn read_and_answer(
     old: &mut [u64],
     new: &mut [u64],
 ) -> Step {
-    if !read_runs(bytes, sheet, base, store, old, new) {
+    if !read_runs(input, bytes, sheet, base, store, old, new) {
         return Step::Short;
     }
-    answer(head, bytes, sheet, base, store, old, new)
+    answer(rt, head, bytes, sheet, base, store, old, new)
 }
 
 // Reads a call and answers it.
 fn one_call(
+    rt: &impl Print,
+    input: &mut impl Read,
     bytes: &mut [u8],
     sheet: &mut [u64],
     base: &mut [u64],
@@ -228,7 +257,7 @@ fn one_call(
 ) -> Step {
     let mut head = [0u64; 8];
     let mut space = [0u8; 64];
-    let got = io::read_full(STDIN_FILENO, &mut space);
+    let got = read_full(input, &mut space);
     if got == 0 {
         return Step::Ended;
     }
@@ -257,6 +286,8 @@ fn one_call(
         return Step::Long;
     }
     read_and_answer(
+        rt,
+        input,
         head,
         bytes,
         &mut sheet[..s],
@@ -277,6 +308,8 @@ fn goes_on(step: Step) -> bool {
 
 // A proved loop has to end, and nothing says that the input does: so the turns are counted down, from a number that no run uses up.
 fn serve(
+    rt: &impl Print,
+    input: &mut impl Read,
     bytes: &mut [u8],
     sheet: &mut [u64],
     base: &mut [u64],
@@ -284,10 +317,8 @@ fn serve(
     old: &mut [u64],
     new: &mut [u64],
 ) -> Step {
-    let mut turns = u64::MAX;
-    while turns > 0 {
-        turns -= 1;
-        let step = one_call(bytes, sheet, base, store, old, new);
+    for _ in 0..u64::MAX {
+        let step = one_call(rt, input, bytes, sheet, base, store, old, new);
         if !goes_on(step) {
             return step;
         }
@@ -295,14 +326,13 @@ fn serve(
     Step::Ended
 }
 
-fn complain(text: &[u8]) {
-    io::write_all(STDERR_FILENO, b"calls: ");
-    io::write_all(STDERR_FILENO, text);
-    io::write_all(STDERR_FILENO, b"\n");
+// A failed write is passed over, since nothing is left to be told.
+fn complain(rt: &impl Eprint, text: &str) {
+    let _ = eprintln!(rt; "calls: {text}");
 }
 
 // The largest of each run: a sheet of 1,024 words, base tables of 131,072, a store of 196,608, rows of 64. Every good store fits, not every base run.
-fn main() {
+fn main(rt: HostRuntime) {
     let mut bytes = [0u8; 32768];
     let mut sheet = [0u64; 1024];
     let mut base = [0u64; 131072];
@@ -310,14 +340,21 @@ fn main() {
     let mut old = [0u64; 64];
     let mut new = [0u64; 64];
     let step = serve(
-        &mut bytes, &mut sheet, &mut base, &mut store, &mut old, &mut new,
+        &rt,
+        &mut rt.reader(),
+        &mut bytes,
+        &mut sheet,
+        &mut base,
+        &mut store,
+        &mut old,
+        &mut new,
     );
     match step {
         Step::Answered => {}
         Step::Ended => {}
-        Step::Short => complain(b"the input ends within a call"),
-        Step::Long => complain(b"a run is longer than this program has room for"),
-        Step::Unknown => complain(b"no such call"),
-        Step::Unwritten => complain(b"standard output takes no more"),
+        Step::Short => complain(&rt, "the input ends within a call"),
+        Step::Long => complain(&rt, "a run is longer than this program has room for"),
+        Step::Unknown => complain(&rt, "no such call"),
+        Step::Unwritten => complain(&rt, "standard output takes no more"),
     }
 }

@@ -12,16 +12,17 @@
 // A call prints a line: what it is, its number, of a fill and a change also taken and added, and behind bars the words: all that a
 // fill leaves, those that show hands back, the changed table's side table and the list, some of the largest store.
 #![tactic(auto)]
+
 mod largest;
 
 ghost use Rattle.std.specs.Prelude.{◌<◌, ◌≤◌, length};
 
-use libc::{STDIN_FILENO, STDOUT_FILENO};
+use std::io::Read;
 use store::Answer;
 use text::Reader;
 
 // What a line that is no comment asks for.
-#[derive(Drop)]
+#[derive(Clone, Copy)]
 enum Line {
     Sheet,
     Long,
@@ -35,7 +36,7 @@ enum Line {
 }
 
 // How many words the sheet has, and the store.
-#[derive(Drop)]
+#[derive(Clone, Copy)]
 struct Size {
     sheet: usize,
     store: usize,
@@ -65,78 +66,84 @@ fn count_of(text: &[u8]) -> usize
     r.many
 }
 
-fn print(text: &[u8]) {
-    io::write_all(STDOUT_FILENO, text);
+// Writes to standard output. A write that fails is passed over.
+fn print(rt: &impl Print, text: &[u8]) {
+    let _ = rt.write_all(text);
 }
 
-fn print_word(word: u64) {
-    print(b" ");
-    io::print_decimal(STDOUT_FILENO, word);
+fn print_word(rt: &impl Print, word: u64) {
+    let _ = print!(rt; " {word}");
 }
 
-fn print_words(words: &[u64]) {
-    let mut i = 0;
-    while i < words.len() {
-        print_word(words[i]);
-        i += 1;
+fn print_words(rt: &impl Print, words: &[u64]) {
+    for word in words {
+        print_word(rt, *word);
     }
 }
 
 // Words behind a bar.
-fn print_part(words: &[u64]) {
-    print(b" |");
-    print_words(words);
+fn print_part(rt: &impl Print, words: &[u64]) {
+    print(rt, b" |");
+    print_words(rt, words);
 }
 
 // The number, taken and added.
-fn print_answer(answer: Answer) {
-    print(b":");
+fn print_answer(rt: &impl Print, answer: Answer) {
+    print(rt, b":");
     match answer {
         Answer::Done(taken, added) => {
             let three = [0, taken, added];
-            print_words(&three);
+            print_words(rt, &three);
         }
         Answer::Refused(number) => {
             let three = [number, 0, 0];
-            print_words(&three);
+            print_words(rt, &three);
         }
     }
 }
 
-fn print_kind(kind: u64) {
+fn print_kind(rt: &impl Print, kind: u64) {
     match kind {
-        1 => print(b"insert"),
-        2 => print(b"delete"),
-        3 => print(b"update"),
-        _ => print(b"no kind"),
+        1 => print(rt, b"insert"),
+        2 => print(rt, b"delete"),
+        3 => print(rt, b"update"),
+        _ => print(rt, b"no kind"),
     }
 }
 
-fn print_shown(sheet: &[u64], store: &[u64], number: u64) {
+fn print_shown(rt: &impl Print, sheet: &[u64], store: &[u64], number: u64) {
     let mut refusal: u64 = 0;
     let words = store::show(sheet, store, number, &mut refusal);
-    print_part(words);
+    print_part(rt, words);
 }
 
-fn change(sheet: &[u64], store: &mut [u64], kind: u64, table: u64, old: &[u64], new: &[u64]) {
+fn change(
+    rt: &impl Print,
+    sheet: &[u64],
+    store: &mut [u64],
+    kind: u64,
+    table: u64,
+    old: &[u64],
+    new: &[u64],
+) {
     let answer = change::change(sheet, store, kind, table, old, new);
-    print_kind(kind);
-    print_word(table);
-    print_words(old);
+    print_kind(rt, kind);
+    print_word(rt, table);
+    print_words(rt, old);
     if kind == 3 {
-        print(b" to");
+        print(rt, b" to");
     }
-    print_words(new);
-    print_answer(answer);
-    print_shown(sheet, store, table);
+    print_words(rt, new);
+    print_answer(rt, answer);
+    print_shown(rt, sheet, store, table);
     if 1 <= sheet.len() {
         let list = sheet[0];
-        print_shown(sheet, store, list);
+        print_shown(rt, sheet, store, list);
     }
 }
 
 // The change that these words say.
-fn change_of(sheet: &[u64], store: &mut [u64], words: &[u64]) {
+fn change_of(rt: &impl Print, sheet: &[u64], store: &mut [u64], words: &[u64]) {
     let end = words.len();
     if end < 4 {
         return;
@@ -152,6 +159,7 @@ fn change_of(sheet: &[u64], store: &mut [u64], words: &[u64]) {
     }
     let middle = 4 + words[2] as usize;
     change(
+        rt,
         sheet,
         store,
         kind,
@@ -161,59 +169,66 @@ fn change_of(sheet: &[u64], store: &mut [u64], words: &[u64]) {
     );
 }
 
-fn fill(sheet: &[u64], store: &mut [u64], base: &[u64]) {
+fn fill(rt: &impl Print, sheet: &[u64], store: &mut [u64], base: &[u64]) {
     let answer = fill::fill(sheet, base, store);
-    print(b"fill");
-    print_words(base);
-    print_answer(answer);
-    print_part(store);
+    print(rt, b"fill");
+    print_words(rt, base);
+    print_answer(rt, answer);
+    print_part(rt, store);
 }
 
-fn show(sheet: &[u64], store: &[u64], words: &[u64]) {
+fn show(rt: &impl Print, sheet: &[u64], store: &[u64], words: &[u64]) {
     if words.len() < 1 {
         return;
     }
     let number = words[0];
     let mut refusal: u64 = 99;
     let part = store::show(sheet, store, number, &mut refusal);
-    print(b"show");
-    print_word(number);
-    print(b":");
-    print_word(refusal);
-    print_part(part);
+    print(rt, b"show");
+    print_word(rt, number);
+    print(rt, b":");
+    print_word(rt, refusal);
+    print_part(rt, part);
 }
 
 // The counts, the first two rows of the list and its last.
-fn print_some(store: &[u64]) {
+fn print_some(rt: &impl Print, store: &[u64]) {
     if store.len() < 61449 {
         return;
     }
-    print_part(&store[0..9]);
-    print_part(&store[28681..28697]);
-    print_part(&store[61441..61449]);
+    print_part(rt, &store[0..9]);
+    print_part(rt, &store[28681..28697]);
+    print_part(rt, &store[61441..61449]);
 }
 
-fn fill_largest(sheet: &[u64]) {
+fn fill_largest(rt: &impl Print, sheet: &[u64]) {
     let mut base = [65535u64; 589823];
     largest::put_rows(&mut base);
     let mut store = [77u64; 61449];
     let answer = fill::fill(sheet, &base, &mut store);
-    print(b"largest");
-    print_answer(answer);
-    print_some(&store);
+    print(rt, b"largest");
+    print_answer(rt, answer);
+    print_some(rt, &store);
 }
 
-fn call(line: Line, sheet: &[u64], store: &mut [u64], words: &[u64]) {
+fn call(rt: &impl Print, line: Line, sheet: &[u64], store: &mut [u64], words: &[u64]) {
     match line {
-        Line::Fill => fill(sheet, store, words),
-        Line::Show => show(sheet, store, words),
-        Line::Largest => fill_largest(sheet),
-        _ => change_of(sheet, store, words),
+        Line::Fill => fill(rt, sheet, store, words),
+        Line::Show => show(rt, sheet, store, words),
+        Line::Largest => fill_largest(rt, sheet),
+        _ => change_of(rt, sheet, store, words),
     }
 }
 
 // A call, and its line.
-fn call_line(line: Line, numbers: &[u8], sheet: &[u64], store: &mut [u64], size: Size) {
+fn call_line(
+    rt: &impl Print,
+    line: Line,
+    numbers: &[u8],
+    sheet: &[u64],
+    store: &mut [u64],
+    size: Size,
+) {
     let words = words_of(numbers);
     let many = count_of(numbers);
     let m = size.sheet;
@@ -224,8 +239,8 @@ fn call_line(line: Line, numbers: &[u8], sheet: &[u64], store: &mut [u64], size:
     if store.len() < n {
         return;
     }
-    call(line, &sheet[..m], &mut store[..n], &words[..many]);
-    print(b"\n");
+    call(rt, line, &sheet[..m], &mut store[..n], &words[..many]);
+    print(rt, b"\n");
 }
 
 // The length of the store of a good sheet; if there is no room for it, or of any other sheet, the length that was.
@@ -295,14 +310,21 @@ fn put_line(numbers: &[u8], store: &mut [u64]) {
 }
 
 // Gives the lengths after it.
-fn run_line(line: Line, numbers: &[u8], sheet: &mut [u64], store: &mut [u64], size: Size) -> Size {
+fn run_line(
+    rt: &impl Print,
+    line: Line,
+    numbers: &[u8],
+    sheet: &mut [u64],
+    store: &mut [u64],
+    size: Size,
+) -> Size {
     match line {
         Line::Sheet => return sheet_line(numbers, sheet, size),
         Line::Long => return long_line(numbers, size),
         Line::Store => store_line(numbers, store),
         Line::Every => every_line(numbers, store),
         Line::Put => put_line(numbers, store),
-        _ => call_line(line, numbers, sheet, store, size),
+        _ => call_line(rt, line, numbers, sheet, store, size),
     }
     size
 }
@@ -364,15 +386,21 @@ fn letters_end(line: &[u8]) -> usize
     end
 }
 
-fn comment_or_line(line: &[u8], sheet: &mut [u64], store: &mut [u64], size: Size) -> Size {
+fn comment_or_line(
+    rt: &impl Print,
+    line: &[u8],
+    sheet: &mut [u64],
+    store: &mut [u64],
+    size: Size,
+) -> Size {
     if begins(line, b"#") {
-        print(line);
-        print(b"\n");
+        print(rt, line);
+        print(rt, b"\n");
         return size;
     }
     let kind = kind_of(line);
     let numbers = letters_end(line);
-    run_line(kind, &line[numbers..], sheet, store, size)
+    run_line(rt, kind, &line[numbers..], sheet, store, size)
 }
 
 // Where the line that begins at `from` ends.
@@ -390,20 +418,35 @@ fn line_end(text: &[u8], from: usize) -> usize
     end
 }
 
-fn run(text: &[u8], sheet: &mut [u64], store: &mut [u64]) {
+fn run(rt: &impl Print, text: &[u8], sheet: &mut [u64], store: &mut [u64]) {
     let mut size = Size { sheet: 0, store: 0 };
     let mut at = 0;
     while at < text.len() {
         let end = line_end(text, at);
-        size = comment_or_line(&text[at..end], sheet, store, size);
+        size = comment_or_line(rt, &text[at..end], sheet, store, size);
         at = end + 1;
     }
 }
 
-fn main() {
+// Reads until the text is full, the input ends or a read fails, and returns how many bytes it has put in front.
+fn read_full(input: &mut impl Read, text: &mut [u8]) -> usize
+    ensures { result ≤ length text.new }
+{
+    let mut done = 0;
+    while done < text.len() {
+        match input.read(&mut text[done..]) {
+            Ok(0) => break,
+            Ok(n) => done += n,
+            Err(_) => break,
+        }
+    }
+    done
+}
+
+fn main(rt: HostRuntime) {
     let mut text = [0u8; 32768];
     let mut sheet = [0u64; 146];
     let mut store = [0u64; 146];
-    let n = io::read_full(STDIN_FILENO, &mut text);
-    run(&text[..n], &mut sheet, &mut store);
+    let n = read_full(&mut rt.reader(), &mut text);
+    run(&rt, &text[..n], &mut sheet, &mut store);
 }
