@@ -38,11 +38,9 @@ fn put_word(word: u64, bytes: &mut [u8], at: usize)
     requires { at + 8 ≤ length bytes.old }
 {
     let mut rest = word;
-    let mut i = 0;
-    while i < 8 {
+    for i in 0..8 {
         bytes[at + i] = (rest % 256) as u8;
         rest /= 256;
-        i += 1;
     }
 }
 
@@ -50,20 +48,16 @@ fn put_word(word: u64, bytes: &mut [u8], at: usize)
 fn decode(bytes: &[u8], words: &mut [u64], at: usize, n: usize)
     requires { (8 * n ≤ length bytes.now) × (at + n ≤ length words.old) }
 {
-    let mut i = 0;
-    while i < n {
+    for i in 0..n {
         words[at + i] = word_at(bytes, 8 * i);
-        i += 1;
     }
 }
 
 fn encode(words: &[u64], at: usize, n: usize, bytes: &mut [u8])
     requires { (8 * n ≤ length bytes.old) × (at + n ≤ length words.now) }
 {
-    let mut i = 0;
-    while i < n {
+    for i in 0..n {
         put_word(words[at + i], bytes, 8 * i);
-        i += 1;
     }
 }
 

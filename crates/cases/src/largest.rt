@@ -19,9 +19,7 @@ fn word(i: usize) -> u64 {
 
 // Puts the rows behind the eight counts.
 pub fn put_rows(base: &mut [u64]) {
-    let mut i = 8;
-    while i < base.len() {
+    for i in 8..base.len() {
         base[i] = word(i - 8);
-        i += 1;
     }
 }

@@ -201,14 +201,19 @@ fn print_some(rt: &impl Print, store: &[u64]) {
     print_part(rt, &store[61441..61449]);
 }
 
-fn fill_largest(rt: &impl Print, sheet: &[u64]) {
-    let mut base = [65535u64; 589823];
-    largest::put_rows(&mut base);
-    let mut store = [77u64; 61449];
-    let answer = fill::fill(sheet, &base, &mut store);
+// A function of its own, so that the arrays' lengths need no proof.
+fn fill_arrays(rt: &impl Print, sheet: &[u64], base: &mut [u64; 589823], store: &mut [u64; 61449]) {
+    largest::put_rows(base);
+    let answer = fill::fill(sheet, base, store);
     print(rt, b"largest");
     print_answer(rt, answer);
-    print_some(rt, &store);
+    print_some(rt, store);
+}
+
+fn fill_largest(rt: &impl Print, sheet: &[u64]) {
+    let mut base = [65535u64; 589823];
+    let mut store = [77u64; 61449];
+    fill_arrays(rt, sheet, &mut base, &mut store);
 }
 
 fn call(rt: &impl Print, line: Line, sheet: &[u64], store: &mut [u64], words: &[u64]) {
@@ -257,13 +262,11 @@ fn length_for(sheet: &[u64], was: usize) -> usize {
 }
 
 fn copy(words: &[u64], to: &mut [u64]) {
-    let mut i = 0;
-    while i < words.len() {
+    for (i, word) in words.iter().enumerate() {
         if to.len() <= i {
             return;
         }
-        to[i] = words[i];
-        i += 1;
+        to[i] = *word;
     }
 }
 
@@ -331,17 +334,7 @@ fn run_line(
 
 // Whether a line is this word, or begins with it.
 fn begins(line: &[u8], word: &[u8]) -> bool {
-    if line.len() < word.len() {
-        return false;
-    }
-    let mut i = 0;
-    while i < word.len() {
-        if line[i] != word[i] {
-            return false;
-        }
-        i += 1;
-    }
-    true
+    line.starts_with(word)
 }
 
 fn kind_of(line: &[u8]) -> Line {
@@ -376,14 +369,12 @@ fn kind_of(line: &[u8]) -> Line {
 fn letters_end(line: &[u8]) -> usize
     ensures { result ≤ length line.now }
 {
-    let mut end = 0;
-    while end < line.len() {
-        if line[end] < b'a' {
+    for (end, letter) in line.iter().enumerate() {
+        if *letter < b'a' {
             return end;
         }
-        end += 1;
     }
-    end
+    line.len()
 }
 
 fn comment_or_line(
@@ -408,14 +399,12 @@ fn line_end(text: &[u8], from: usize) -> usize
     requires { from < length text.now }
     ensures { (from ≤ result) × (result ≤ length text.now) }
 {
-    let mut end = from;
-    while end < text.len() {
+    for end in from..text.len() {
         if text[end] == b'\n' {
             return end;
         }
-        end += 1;
     }
-    end
+    text.len()
 }
 
 fn run(rt: &impl Print, text: &[u8], sheet: &mut [u64], store: &mut [u64]) {
