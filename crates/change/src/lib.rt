@@ -1,5 +1,6 @@
 // The change call: tests 1 to 7 in their order, and then the change itself.
 #![tactic(auto)]
+
 ghost use Rattle.meaning.specs.Change as Meant;
 ghost use Rattle.meaning.specs.Base.{change_of};
 ghost use Rattle.store.specs.Answers.{Says};

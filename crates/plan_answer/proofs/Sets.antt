@@ -13,7 +13,7 @@ use Rattle.lists.specs.Totals.{one}
 use Rattle.lists.specs.Loops.{filled}
 use Rattle.lists.proofs.Truth.{up_to-mem, select-same}
 use Rattle.lists.proofs.Loops.{get_or-filled}
-use Rattle.meaning.specs.Sheet.{Sheet, sheet_of, sheet_refusal, width, tables}
+use Rattle.meaning.specs.Sheet.{Sheet, sheet_of, sheet_refusal, width}
 use Rattle.meaning.specs.Plan.{TablePlan, dep, need, kept, is_shown, shown, table_plan, good_plan, no_plan, in_order, plan}
 use Rattle.meaning.specs.Plan as Meant
 use Rattle.sheet.proofs.Words.{n-is}

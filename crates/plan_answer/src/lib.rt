@@ -1,5 +1,6 @@
 // The plan call: any run of words to the whole plan, or to the number of the refusal.
 #![tactic(auto)]
+
 ghost use Rattle.std.specs.Prelude.{◌≡◌, ℕ, ◌≤◌, ◌<◌, length};
 ghost use Rattle.meaning.specs.Limits.{most_tables, most_places};
 ghost use Rattle.meaning.specs.Plan.{plan};

@@ -1,7 +1,6 @@
 -- `change` meets its contract: one law for each way through it.
 -- Assumes nothing.
 use mathlib.Core.Path.{sym, ◌∙◌}
-use borrow.Author.Tests.{not-true, not-false}
 use Rattle.store.proofs.Checks.{check-of}
 use Rattle.change.proofs.Changing.{sheet-good, says-sheet, says-length, says-asked, says-unsound, is-ready, says-applied}
 use Rattle.change.proofs.change.Goals as goal
@@ -30,17 +29,17 @@ is_sound-requires c =
 pub returns-then-not-is_sound : goal.returns-then-not-is_sound
 returns-then-not-is_sound c =
     says-unsound _ _ _ _ c.check-checked.ensures c.in-Good.is c.if-store-plan.false _ c.asked-asked.ensures
-    c.in-Good-asked.is _ c.is_sound.ensures (not-true _ c.if-not-is_sound.true)
+    c.in-Good-asked.is _ c.is_sound.ensures c.if-not-is_sound.true
 
 pub apply-requires : goal.apply-requires
 apply-requires c =
     record {
       ready = is-ready _ _ _ _ c.check-checked.ensures c.in-Good.is c.if-store-plan.false _ c.asked-asked.ensures
-        c.in-Good-asked.is _ c.is_sound.ensures (not-false _ c.if-not-is_sound.false);
+          c.in-Good-asked.is _ c.is_sound.ensures c.if-not-is_sound.false;
       value = sym c.asked-asked.ensures ∙ c.in-Good-asked.is;
     }
 
 pub returns : goal.returns
 returns c =
     says-applied _ _ _ _ c.check-checked.ensures c.in-Good.is c.if-store-plan.false _ c.asked-asked.ensures
-    c.in-Good-asked.is _ c.is_sound.ensures (not-false _ c.if-not-is_sound.false) _ _ c.apply.ensures
+    c.in-Good-asked.is _ c.is_sound.ensures c.if-not-is_sound.false _ _ c.apply.ensures

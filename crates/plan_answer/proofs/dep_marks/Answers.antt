@@ -1,10 +1,16 @@
 -- `dep_marks` meets its contract. The loop's invariant: the places before i are marked.
 -- Assumes nothing.
+use mathlib.Core.Path.{refl}
+use Rattle.lists.specs.Loops.{filled}
 use Rattle.lists.proofs.Loops.{filled_more, filled-end}
 use Rattle.plan_answer.specs.Answers.{dep_of}
 use Rattle.plan_answer.proofs.Marks.{dep-mark}
 use native.Mathlib.Omega.{arith}
 use Rattle.plan_answer.proofs.dep_marks.Goals as goal
+
+pub loop-i-init : goal.loop-i-init
+unfolding filled
+loop-i-init c = (omega arith, refl)
 
 pub loop-i-preserved : goal.loop-i-preserved
 loop-i-preserved c =
