@@ -8,7 +8,8 @@ use Rattle.plan_answer.proofs.plan_of.Goals as goal
 
 pub returns-in_default : goal.returns-in_default
 returns-in_default c =
-    plan-refused _ _ c.check-c.ensures _ _ c.in_default.is (c.refused_answer.ensures ∙ ap refused_answer (c.number_of.ensures ∙ ap verdict_number c.in_default.is))
+    plan-refused _ _ c.check-c.ensures _ _ c.in_default.is
+    (c.refused_answer.ensures ∙ ap refused_answer (c.number_of.ensures ∙ ap verdict_number c.in_default.is))
 
 pub dep_marks-dep-requires : goal.dep_marks-dep-requires
 dep_marks-dep-requires c = sheet-good _ _ c.check-c.ensures c.in-Good.is
