@@ -42,7 +42,8 @@ pub record Insertable (ws store : Words) (plan : Plan) (t : ℕ) (r : Row) (list
   pub free : T (has_room (sheet_of ws) store t)
   pub lies : Lies (sheet_of ws) (sheet_of ws).n list
   pub many : k ≡ length (walk_rows (sheet_of ws) (model_of (sheet_of ws) store) t r)
-  pub left : length (walk_rows (sheet_of ws) (model_of (sheet_of ws) store) t r) + count (sheet_of ws) store (sheet_of ws).n ≤ room (sheet_of ws) (sheet_of ws).n
+  pub left : length (walk_rows (sheet_of ws) (model_of (sheet_of ws) store) t r) + count (sheet_of ws) store (sheet_of ws).n
+      ≤ room (sheet_of ws) (sheet_of ws).n
 
 module _ {ws store : Words} {plan : Plan} (rd : Ready ws store plan) {t : ℕ} {r : Row} (lent : Lent ws t r) where
   key-is : (b : Bool) → b ≡ new_key (model_of (sheet_of ws) store) t r → b ≡ not (has_key (key r) (rows_at (sheet_of ws) store t))

@@ -1,5 +1,6 @@
 // An insert below its tests 1 to 7, on a sound store: contradiction, room, and then the list's rows and the side row.
 #![tactic(auto)]
+
 ghost use Rattle.change_laws.specs.Ready.{Ready};
 ghost use Rattle.walk.specs.Grounds.{Lent};
 ghost use Rattle.change_insert.specs.Inserts.{Inserts};

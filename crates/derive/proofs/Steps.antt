@@ -10,7 +10,7 @@ use native.Mathlib.Omega.{arith}
 use lib.Dec.{T, eqb, ltb}
 use lib.ListN.{length}
 use borrow.Author.Tests.{eqb-true, eq-eqb, ne_eqb}
-use Rattle.lists.specs.Lists.{Words, at, Mem, all, any, member}
+use Rattle.lists.specs.Lists.{Words, Mem, any, member}
 use Rattle.lists.specs.Loops.{some, first}
 use Rattle.lists.proofs.Truth.{T→≡, F→≡, same_test, select-mem, member→Mem, Mem→member, eq→eqb, eqb→≡}
 use Rattle.laws.proofs.Lists.{any-select}

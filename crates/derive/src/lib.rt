@@ -1,5 +1,6 @@
 // What is derived of a good sheet (document 01): the root, Dep, Dep+ and Need, which tables are kept, which columns are child columns.
 #![tactic(auto)]
+
 ghost use Rattle.std.specs.Prelude.{◌≡◌, not, ◌&&◌, eqb, ltb, ◌<◌};
 ghost use Rattle.lists.specs.Loops.{some};
 ghost use Rattle.meaning.specs.Sheet.{sheet_of, table_count, edge_count};

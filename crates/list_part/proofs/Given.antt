@@ -13,7 +13,7 @@ use borrow.Author.Tests.{eq-eqb, ne_eqb}
 use Rattle.lists.specs.Lists.{Words, at, flat}
 use Rattle.rows.specs.declared.Order.{Order}
 use Rattle.rows.specs.declared.Order.TheVariants.{Less, Equal, Greater}
-use Rattle.rows.specs.Rows.{Row, Rows, Wide, cut, same_row, word_order, then_by, row_order, smaller}
+use Rattle.rows.specs.Rows.{Row, Rows, Wide, cut, word_order, then_by, row_order, smaller}
 use Rattle.rows.specs.Words.{row}
 use Rattle.rows.specs.Marks.{altered, is_marked, Numbers}
 use Rattle.rows.proofs.Ordered.{same→≡, word-less, word-greater, word-equal, less-smaller, greater-smaller, order-equal}
@@ -166,7 +166,8 @@ module _ (ws : Words) (t : ℕ) (old new : Row) (k : ℕ) (l : k < listed_count 
       let ls = (sheet_of ws).listed in
       let is : get_or ls k (listing_no ws k) ≡ listing_no ws k =
       ap (λ (ls : List Listed). get_or ls k (listing_no ws k)) (listed-are ws) ∙ at-up_to (listing_no ws) (listing_no ws k) (listed_count ws) k l in
-      inv ∙ ap (λ (ls : List Listed). turn_of ls t old new) (drop-cons ls k (listing_no ws k) (rw (← listed-many ws) at l) ∙ ap (λ (x : Listed). x ∷ drop (suc k) ls) is)
+      inv ∙ ap (λ (ls : List Listed). turn_of ls t old new)
+      (drop-cons ls k (listing_no ws k) (rw (← listed-many ws) at l) ∙ ap (λ (x : Listed). x ∷ drop (suc k) ls) is)
       ∙ rw (reads.table_is, reads.column-is, add-one k)
 
   pub turn-other : (d.table ≡ t → ⊥) → turn_of (sheet_of ws).listed t old new ≡ turn_of (drop (k + 1) (sheet_of ws).listed) t old new

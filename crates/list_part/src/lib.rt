@@ -1,5 +1,6 @@
 // List rows rewritten and put in order: one table's columns in them, the list's part of a store while its rows change, and the rows of ways.
 #![tactic(auto)]
+
 mod columns;
 mod replacing;
 mod rewriting;

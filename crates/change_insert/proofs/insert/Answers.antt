@@ -3,7 +3,8 @@
 use Rattle.change_laws.proofs.Halves.{ready-ground, ready-list, ready-table, half-modelled}
 use Rattle.change_insert.proofs.Inserting.{inserts-contradicts, inserts-none, inserts-no-room-side, inserts-no-room-list}
 use Rattle.change_insert.proofs.Inserting.{Insertable, insertable, half_room, inserts-done}
-use mathlib.Core.Path.{◌≡◌}
+use mathlib.Core.Path.{◌≡◌, ap}
+use mathlib.Core.Bool.{not}
 use Prim.Native.Nat.{ℕ}
 use Rattle.change_added.specs.declared.Added.TheVariants.{All}
 use Rattle.change_insert.proofs.insert.Goals as goal
@@ -19,7 +20,7 @@ new_key-requires c =
 
 pub returns-then-not-new_key : goal.returns-then-not-new_key
 returns-then-not-new_key c =
-    inserts-contradicts c.requires.ready c.requires.lent _ c.new_key.ensures c.if-not-new_key.true
+    inserts-contradicts c.requires.ready c.requires.lent _ c.new_key.ensures (ap not c.if-not-new_key.true)
 
 pub is_qualified-requires : goal.is_qualified-requires
 is_qualified-requires c =
@@ -30,8 +31,8 @@ is_qualified-requires c =
 
 pub returns-then-not-is_qualified : goal.returns-then-not-is_qualified
 returns-then-not-is_qualified c =
-    inserts-none c.requires.ready c.requires.lent _ c.new_key.ensures c.if-not-new_key.false _ c.is_qualified.ensures
-    c.if-not-is_qualified.true
+    inserts-none c.requires.ready c.requires.lent _ c.new_key.ensures (ap not c.if-not-new_key.false) _ c.is_qualified.ensures
+    (ap not c.if-not-is_qualified.true)
 
 pub has_room-requires : goal.has_room-requires
 has_room-requires c =
@@ -43,8 +44,8 @@ has_room-requires c =
 
 pub returns-then-not-has_room : goal.returns-then-not-has_room
 returns-then-not-has_room c =
-    inserts-no-room-side c.requires.ready c.requires.lent _ c.new_key.ensures c.if-not-new_key.false _
-    c.is_qualified.ensures c.if-not-is_qualified.false _ c.has_room.ensures c.if-not-has_room.true
+    inserts-no-room-side c.requires.ready c.requires.lent _ c.new_key.ensures (ap not c.if-not-new_key.false) _
+    c.is_qualified.ensures (ap not c.if-not-is_qualified.false) _ c.has_room.ensures (ap not c.if-not-has_room.true)
 
 pub add_ways-added-requires : goal.add_ways-added-requires
 add_ways-added-requires c =
@@ -57,12 +58,12 @@ add_ways-added-requires c =
 pub put_side-requires : goal.put_side-requires
 put_side-requires c =
     let admitted : (k : ℕ) → c.add_ways-added.result ≡ All k
-        → Insertable c.args.sheet.now c.args.store.now c.args.t2 c.args.table c.args.row.now
-        c.part_of-list.result k =
-        λ k told. let gained = rw told at c.add_ways-added.ensures in
-        insertable c.requires.ready c.requires.lent _ c.new_key.ensures c.if-not-new_key.false _ c.is_qualified.ensures
-        c.if-not-is_qualified.false _ c.has_room.ensures c.if-not-has_room.false _ (ready-list c.requires.ready _ c.part_of-list.ensures) k
-        gained.0 gained.1 in
+    → Insertable c.args.sheet.now c.args.store.now c.args.plan c.args.table c.args.row.now
+    c.part_of-list.result k =
+    λ k told. let gained = rw told at c.add_ways-added.ensures in
+    insertable c.requires.ready c.requires.lent _ c.new_key.ensures (ap not c.if-not-new_key.false) _ c.is_qualified.ensures
+    (ap not c.if-not-is_qualified.false) _ c.has_room.ensures (ap not c.if-not-has_room.false) _ (ready-list c.requires.ready _ c.part_of-list.ensures) k
+    gained.0 gained.1 in
     let p = admitted _ c.in-All.is in
     let written = (rw c.in-All.is at c.add_ways-added.ensures).2 in record {
       good_plan = p.ready.planned;
@@ -75,18 +76,18 @@ put_side-requires c =
 pub returns-in-All : goal.returns-in-All
 returns-in-All c =
     let admitted : (k : ℕ) → c.add_ways-added.result ≡ All k
-        → Insertable c.args.sheet.now c.args.store.now c.args.t2 c.args.table c.args.row.now
-        c.part_of-list.result k =
-        λ k told. let gained = rw told at c.add_ways-added.ensures in
-        insertable c.requires.ready c.requires.lent _ c.new_key.ensures c.if-not-new_key.false _ c.is_qualified.ensures
-        c.if-not-is_qualified.false _ c.has_room.ensures c.if-not-has_room.false _ (ready-list c.requires.ready _ c.part_of-list.ensures) k
-        gained.0 gained.1 in
+    → Insertable c.args.sheet.now c.args.store.now c.args.plan c.args.table c.args.row.now
+    c.part_of-list.result k =
+    λ k told. let gained = rw told at c.add_ways-added.ensures in
+    insertable c.requires.ready c.requires.lent _ c.new_key.ensures (ap not c.if-not-new_key.false) _ c.is_qualified.ensures
+    (ap not c.if-not-is_qualified.false) _ c.has_room.ensures (ap not c.if-not-has_room.false) _ (ready-list c.requires.ready _ c.part_of-list.ensures) k
+    gained.0 gained.1 in
     let written = (rw c.in-All.is at c.add_ways-added.ensures).2 in
     inserts-done (admitted _ c.in-All.is) _ written _ c.put_side.ensures
 
 pub returns-in-NoRoom : goal.returns-in-NoRoom
 returns-in-NoRoom c =
     let refused = rw c.in-NoRoom.is at c.add_ways-added.ensures in
-    inserts-no-room-list c.requires.ready c.requires.lent _ c.new_key.ensures c.if-not-new_key.false _
-    c.is_qualified.ensures c.if-not-is_qualified.false _ c.has_room.ensures c.if-not-has_room.false _
+    inserts-no-room-list c.requires.ready c.requires.lent _ c.new_key.ensures (ap not c.if-not-new_key.false) _
+    c.is_qualified.ensures (ap not c.if-not-is_qualified.false) _ c.has_room.ensures (ap not c.if-not-has_room.false) _
     (ready-list c.requires.ready _ c.part_of-list.ensures) refused.0 _ refused.1

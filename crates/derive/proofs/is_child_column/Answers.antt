@@ -1,11 +1,16 @@
 -- `is_child_column` meets its contract. The loop's invariant: no edge before k leaves the table by the column.
 -- Assumes nothing.
 use mathlib.Core.Path.{sym}
-use mathlib.Core.Bool.{false}
 use Rattle.lists.proofs.Loops.{some_more, some-hit, some_end}
 use Rattle.derive.proofs.Steps.{leaves-yes, leaves-other, leaves-elsewhere}
 use native.Mathlib.Omega.{arith}
+use Rattle.lists.specs.Loops.{some}
+use borrow.Author.Rules.{rules}
 use Rattle.derive.proofs.is_child_column.Goals as goal
+
+pub loop-k-init : goal.loop-k-init
+unfolding some
+loop-k-init c = search rules
 
 pub returns-then-edge-c : goal.returns-then-edge-c
 returns-then-edge-c c =

@@ -1,11 +1,16 @@
 -- `is_kept` meets its contract. The loop's invariant: no edge before k keeps the root.
 -- Assumes nothing.
 use mathlib.Core.Path.{sym, ◌∙◌}
-use mathlib.Core.Bool.{false}
 use Rattle.lists.proofs.Loops.{some_more, some-hit, some_end}
 use Rattle.derive.proofs.Roots.{kept-child, kept-root}
 use native.Mathlib.Omega.{arith}
+use Rattle.lists.specs.Loops.{some}
+use borrow.Author.Rules.{rules}
 use Rattle.derive.proofs.is_kept.Goals as goal
+
+pub loop-k-init : goal.loop-k-init
+unfolding some
+loop-k-init c = search rules
 
 pub returns-then-edge_into-e : goal.returns-then-edge_into-e
 returns-then-edge_into-e c =

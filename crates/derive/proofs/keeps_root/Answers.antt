@@ -2,23 +2,22 @@
 -- Assumes nothing.
 use mathlib.Core.Path.{sym, ap, ◌∙◌}
 use mathlib.Core.Bool.{not}
-use borrow.Author.Tests.{eqb-true, eqb-false, not-true, not-false}
 use Rattle.derive.proofs.Roots.{keeps-loose, keeps-other, keeps-next}
 use Rattle.derive.proofs.keeps_root.Goals as goal
 
 pub returns-then-not-promised : goal.returns-then-not-promised
-returns-then-not-promised c = sym (keeps-loose _ _ _ c.edge_no-edge.ensures (eqb-false _ _ (not-true _ c.if-not-promised.true)))
+returns-then-not-promised c = sym (keeps-loose _ _ _ c.edge_no-edge.ensures c.if-not-promised.true)
 
 pub returns-then-edge-t : goal.returns-then-edge-t
 returns-then-edge-t c =
-    sym (keeps-other _ _ _ c.edge_no-edge.ensures (eqb-true _ _ (not-false _ c.if-not-promised.false)) c.if-edge-t.true)
+    sym (keeps-other _ _ _ c.edge_no-edge.ensures c.if-not-promised.false c.if-edge-t.true)
 
 pub returns-then-is_listed : goal.returns-then-is_listed
 returns-then-is_listed c =
     ap not (sym c.if-is_listed.true)
-    ∙ keeps-next _ _ _ c.edge_no-edge.ensures (eqb-true _ _ (not-false _ c.if-not-promised.false)) _ c.if-edge-t.false c.is_listed.ensures
+    ∙ keeps-next _ _ _ c.edge_no-edge.ensures c.if-not-promised.false _ c.if-edge-t.false c.is_listed.ensures
 
 pub returns : goal.returns
 returns c =
     ap not (sym c.if-is_listed.false)
-    ∙ keeps-next _ _ _ c.edge_no-edge.ensures (eqb-true _ _ (not-false _ c.if-not-promised.false)) _ c.if-edge-t.false c.is_listed.ensures
+    ∙ keeps-next _ _ _ c.edge_no-edge.ensures c.if-not-promised.false _ c.if-edge-t.false c.is_listed.ensures

@@ -2,7 +2,6 @@
 -- Assumes nothing.
 use Rattle.list_part.proofs.Given.{giving-start, row_inside, giving-next, giving-end}
 use mathlib.Core.Path.{refl}
-use borrow.Author.Rules.{rules}
 use native.Mathlib.Omega.{arith}
 use Rattle.list_part.proofs.columns.give_marked.Goals as goal
 
@@ -21,11 +20,10 @@ give_row-requires c =
     }
 
 pub loop-j-preserved : goal.loop-j-preserved
-loop-j-preserved c =
-    (
-      omega (arith, c.loop-j-test.true),
-      giving-next _ _ _ _ _ _ c.requires.sheet_in_bounds c.requires.numbers _ c.loop-j-test.true _ refl _ c.loop-j.invariant.1 _ c.give_row.ensures,
-    )
+loop-j-preserved c = (
+  omega (arith, c.loop-j-test.true),
+  giving-next _ _ _ _ _ _ c.requires.sheet_in_bounds c.requires.numbers _ c.loop-j-test.true _ refl _ c.loop-j.invariant.1 _ c.give_row.ensures,
+)
 
 pub returns : goal.returns
 returns c = giving-end _ _ _ _ _ _ _ _ c.loop-j-test.false c.loop-j.invariant.1

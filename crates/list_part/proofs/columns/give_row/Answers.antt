@@ -18,36 +18,34 @@ loop-k-init c = (search rules, row_in _ _ _ _ c.listed-p.ensures c.requires.shee
 pub offset_bounds-r-c : goal.offset_bounds-r-c
 offset_bounds-r-c c =
     let inside : c.listing_no-l.result.column < length c.args.r.now =
-        column-in _ _ _ _ _ _ c.requires.rules c.requires.fits c.listed-p.ensures c.loop-k-test.true c.listing_no-l.ensures
-        c.if-l-t.true in
+    column-in _ _ _ _ _ _ c.requires.rules c.requires.fits c.listed-p.ensures c.loop-k-test.true c.listing_no-l.ensures
+    c.if-l-t.true in
     omega (arith, inside)
 
 pub bounds-r-c : goal.bounds-r-c
 bounds-r-c c =
     let inside : c.listing_no-l.result.column < length c.args.r.now =
-        column-in _ _ _ _ _ _ c.requires.rules c.requires.fits c.listed-p.ensures c.loop-k-test.true c.listing_no-l.ensures
-        c.if-l-t.true in
+    column-in _ _ _ _ _ _ c.requires.rules c.requires.fits c.listed-p.ensures c.loop-k-test.true c.listing_no-l.ensures
+    c.if-l-t.true in
     inside
 
 pub loop-k-preserved-then-l-t : goal.loop-k-preserved-then-l-t
-loop-k-preserved-then-l-t c =
-    (
-      omega arith,
-      c.loop-k.invariant.1,
-      simp length-set c.loop-k.invariant.2,
-      give-own _ _ _ _ _ _ c.listed-p.ensures c.loop-k.invariant.1 _ c.loop-k-test.true _ c.listing_no-l.ensures _
-          c.loop-k.invariant.3 c.if-l-t.true,
-    )
+loop-k-preserved-then-l-t c = (
+  omega arith,
+  c.loop-k.invariant.1,
+  simp length-set c.loop-k.invariant.2,
+  give-own _ _ _ _ _ _ c.listed-p.ensures c.loop-k.invariant.1 _ c.loop-k-test.true _ c.listing_no-l.ensures _
+      c.loop-k.invariant.3 c.if-l-t.true,
+)
 
 pub loop-k-preserved : goal.loop-k-preserved
-loop-k-preserved c =
-    (
-      omega arith,
-      c.loop-k.invariant.1,
-      c.loop-k.invariant.2,
-      give-other _ _ _ _ _ _ c.listed-p.ensures c.loop-k.invariant.1 _ c.loop-k-test.true _ c.listing_no-l.ensures _
-          c.loop-k.invariant.3 c.if-l-t.false,
-    )
+loop-k-preserved c = (
+  omega arith,
+  c.loop-k.invariant.1,
+  c.loop-k.invariant.2,
+  give-other _ _ _ _ _ _ c.listed-p.ensures c.loop-k.invariant.1 _ c.loop-k-test.true _ c.listing_no-l.ensures _
+      c.loop-k.invariant.3 c.if-l-t.false,
+)
 
 pub returns : goal.returns
 returns c =

@@ -4,7 +4,6 @@ use Prim.Native.Nat.{◌≤◌}
 use mathlib.Core.Path.{refl}
 use lib.ListN.{length-set}
 use Rattle.list_part.proofs.Given.{word_more, word_end}
-use borrow.Author.Rules.{rules}
 use native.Mathlib.Omega.{arith}
 use Rattle.list_part.proofs.columns.given_row.Goals as goal
 
@@ -23,29 +22,30 @@ given_word-requires c =
 pub offset_bounds-row-k : goal.offset_bounds-row-k
 offset_bounds-row-k c =
     let few : c.loop-k.k ≤ 15 =
-        omega (arith, c.loop-k-test.true, c.listed-p.ensures, c.requires.rules.counts.listed-few) in
+    omega (arith, c.loop-k-test.true, c.listed-p.ensures, c.requires.rules.counts.listed-few) in
     omega (arith, few)
 
 pub bounds-row-k : goal.bounds-row-k
 bounds-row-k c =
     let few : c.loop-k.k ≤ 15 =
-        omega (arith, c.loop-k-test.true, c.listed-p.ensures, c.requires.rules.counts.listed-few) in
+    omega (arith, c.loop-k-test.true, c.listed-p.ensures, c.requires.rules.counts.listed-few) in
     omega (arith, few)
 
 pub overflow_add-k : goal.overflow_add-k
 overflow_add-k c =
     let few : c.loop-k.k ≤ 15 =
-        omega (arith, c.loop-k-test.true, c.listed-p.ensures, c.requires.rules.counts.listed-few) in
+    omega (arith, c.loop-k-test.true, c.listed-p.ensures, c.requires.rules.counts.listed-few) in
     omega (arith, few)
 
 pub loop-k-preserved : goal.loop-k-preserved
 loop-k-preserved c =
     let few : c.loop-k.k ≤ 15 =
-        omega (arith, c.loop-k-test.true, c.listed-p.ensures, c.requires.rules.counts.listed-few) in
-    (
+    omega (arith, c.loop-k-test.true, c.listed-p.ensures, c.requires.rules.counts.listed-few) in (
       omega (arith, c.loop-k-test.true),
       simp length-set c.loop-k.invariant.1,
-      rw c.given_word.ensures (word_more _ _ _ _ _ c.requires.sheet_in_bounds _ c.loop-k.k (omega (arith, few, c.loop-k.invariant.1)) (rw (← c.listed-p.ensures) c.loop-k-test.true) c.loop-k.invariant.2),
+      rw c.given_word.ensures
+          (word_more _ _ _ _ _ c.requires.sheet_in_bounds _ c.loop-k.k (omega (arith, few, c.loop-k.invariant.1))
+          (rw (← c.listed-p.ensures) c.loop-k-test.true) c.loop-k.invariant.2),
     )
 
 pub returns : goal.returns

@@ -1,7 +1,6 @@
 -- `shows_row` meets its contract. The loop's invariant: each word before k shows r's value, or is of another table.
 -- Assumes nothing.
 use Prim.Native.Nat.{◌<◌}
-use mathlib.Core.Bool.{true}
 use lib.ListN.{length}
 use Rattle.lists.specs.Loops.{every}
 use Rattle.lists.proofs.Loops.{every_more}
@@ -20,15 +19,15 @@ loop-k-init c = (search rules, row_in _ _ _ _ c.listed-p.ensures c.requires.shee
 pub offset_bounds-r-c : goal.offset_bounds-r-c
 offset_bounds-r-c c =
     let inside : c.listing_no-l.result.column < length c.args.r.now =
-        column-in _ _ _ _ _ _ c.requires.rules c.requires.fits c.listed-p.ensures c.loop-k-test.true c.listing_no-l.ensures
-        c.if-l-t.true in
+    column-in _ _ _ _ _ _ c.requires.rules c.requires.fits c.listed-p.ensures c.loop-k-test.true c.listing_no-l.ensures
+    c.if-l-t.true in
     omega (arith, inside)
 
 pub bounds-r-c : goal.bounds-r-c
 bounds-r-c c =
     let inside : c.listing_no-l.result.column < length c.args.r.now =
-        column-in _ _ _ _ _ _ c.requires.rules c.requires.fits c.listed-p.ensures c.loop-k-test.true c.listing_no-l.ensures
-        c.if-l-t.true in
+    column-in _ _ _ _ _ _ c.requires.rules c.requires.fits c.listed-p.ensures c.loop-k-test.true c.listing_no-l.ensures
+    c.if-l-t.true in
     inside
 
 pub returns-then-s-base : goal.returns-then-s-base
@@ -37,24 +36,22 @@ returns-then-s-base c =
     c.if-l-t.true c.if-s-base.true
 
 pub loop-k-preserved-else-s-base : goal.loop-k-preserved-else-s-base
-loop-k-preserved-else-s-base c =
-    (
-      omega arith,
-      c.loop-k.invariant.1,
-      every_more _ _ c.loop-k.invariant.2
-          (shows-own _ _ _ _ _ _ c.listed-p.ensures c.loop-k.invariant.1 _ c.loop-k-test.true _ c.listing_no-l.ensures
-          c.if-l-t.true c.if-s-base.false),
-    )
+loop-k-preserved-else-s-base c = (
+  omega arith,
+  c.loop-k.invariant.1,
+  every_more _ _ c.loop-k.invariant.2
+      (shows-own _ _ _ _ _ _ c.listed-p.ensures c.loop-k.invariant.1 _ c.loop-k-test.true _ c.listing_no-l.ensures
+      c.if-l-t.true c.if-s-base.false),
+)
 
 pub loop-k-preserved : goal.loop-k-preserved
-loop-k-preserved c =
-    (
-      omega arith,
-      c.loop-k.invariant.1,
-      every_more _ _ c.loop-k.invariant.2
-          (shows-other _ _ _ _ _ _ c.listed-p.ensures c.loop-k.invariant.1 _ c.loop-k-test.true _ c.listing_no-l.ensures
-          c.if-l-t.false),
-    )
+loop-k-preserved c = (
+  omega arith,
+  c.loop-k.invariant.1,
+  every_more _ _ c.loop-k.invariant.2
+      (shows-other _ _ _ _ _ _ c.listed-p.ensures c.loop-k.invariant.1 _ c.loop-k-test.true _ c.listing_no-l.ensures
+      c.if-l-t.false),
+)
 
 pub returns : goal.returns
 returns c =

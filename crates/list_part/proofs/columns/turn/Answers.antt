@@ -15,29 +15,29 @@ loop-k-init c = (search rules, refl)
 pub offset_bounds-new-c : goal.offset_bounds-new-c
 offset_bounds-new-c c =
     let in-new : c.listing_no-l.result.column < length c.args.new.now =
-        column-in _ _ _ _ _ _ c.requires.rules c.requires.fits_2 c.listed-p.ensures c.loop-k-test.true c.listing_no-l.ensures
-        c.if-l-t.true in
+    column-in _ _ _ _ _ _ c.requires.rules c.requires.fits_2 c.listed-p.ensures c.loop-k-test.true c.listing_no-l.ensures
+    c.if-l-t.true in
     omega (arith, in-new)
 
 pub bounds-new-c : goal.bounds-new-c
 bounds-new-c c =
     let in-new : c.listing_no-l.result.column < length c.args.new.now =
-        column-in _ _ _ _ _ _ c.requires.rules c.requires.fits_2 c.listed-p.ensures c.loop-k-test.true c.listing_no-l.ensures
-        c.if-l-t.true in
+    column-in _ _ _ _ _ _ c.requires.rules c.requires.fits_2 c.listed-p.ensures c.loop-k-test.true c.listing_no-l.ensures
+    c.if-l-t.true in
     in-new
 
 pub offset_bounds-old-c : goal.offset_bounds-old-c
 offset_bounds-old-c c =
     let in-old : c.listing_no-l.result.column < length c.args.old.now =
-        column-in _ _ _ _ _ _ c.requires.rules c.requires.fits c.listed-p.ensures c.loop-k-test.true c.listing_no-l.ensures
-        c.if-l-t.true in
+    column-in _ _ _ _ _ _ c.requires.rules c.requires.fits c.listed-p.ensures c.loop-k-test.true c.listing_no-l.ensures
+    c.if-l-t.true in
     omega (arith, in-old)
 
 pub bounds-old-c : goal.bounds-old-c
 bounds-old-c c =
     let in-old : c.listing_no-l.result.column < length c.args.old.now =
-        column-in _ _ _ _ _ _ c.requires.rules c.requires.fits c.listed-p.ensures c.loop-k-test.true c.listing_no-l.ensures
-        c.if-l-t.true in
+    column-in _ _ _ _ _ _ c.requires.rules c.requires.fits c.listed-p.ensures c.loop-k-test.true c.listing_no-l.ensures
+    c.if-l-t.true in
     in-old
 
 pub returns-then-a-b : goal.returns-then-a-b
@@ -51,20 +51,18 @@ returns-then-b-a c =
     c.loop-k.invariant.1 c.if-l-t.true c.if-b-a.true
 
 pub loop-k-preserved-else-b-a : goal.loop-k-preserved-else-b-a
-loop-k-preserved-else-b-a c =
-    (
-      omega (arith, c.loop-k-test.true),
-      turn-same _ _ _ _ _ (rw (← c.listed-p.ensures) c.loop-k-test.true) _ c.listing_no-l.ensures
-          c.loop-k.invariant.1 c.if-l-t.true c.if-a-b.false c.if-b-a.false,
-    )
+loop-k-preserved-else-b-a c = (
+  omega (arith, c.loop-k-test.true),
+  turn-same _ _ _ _ _ (rw (← c.listed-p.ensures) c.loop-k-test.true) _ c.listing_no-l.ensures
+      c.loop-k.invariant.1 c.if-l-t.true c.if-a-b.false c.if-b-a.false,
+)
 
 pub loop-k-preserved : goal.loop-k-preserved
-loop-k-preserved c =
-    (
-      omega (arith, c.loop-k-test.true),
-      turn-other _ _ _ _ _ (rw (← c.listed-p.ensures) c.loop-k-test.true) _ c.listing_no-l.ensures c.loop-k.invariant.1
-          c.if-l-t.false,
-    )
+loop-k-preserved c = (
+  omega (arith, c.loop-k-test.true),
+  turn-other _ _ _ _ _ (rw (← c.listed-p.ensures) c.loop-k-test.true) _ c.listing_no-l.ensures c.loop-k.invariant.1
+      c.if-l-t.false,
+)
 
 pub returns : goal.returns
 returns c =

@@ -6,7 +6,6 @@ use lib.ListN.{get_or}
 use Rattle.lists.specs.Parts.{part}
 use Rattle.lists.proofs.Parts.{put_back}
 use Rattle.store.specs.Parts.{words_in}
-use borrow.Author.Rules.{rules}
 use native.Mathlib.Omega.{arith}
 use Rattle.list_part.proofs.rewriting.give_rows.Goals as goal
 

@@ -1,10 +1,9 @@
--- `rules` meets its contract, by the ways through the definition of Need. The number of tables left falls with each call.
+-- `needs` meets its contract, by the ways through the definition of Need. The number of tables left falls with each call.
 -- Assumes nothing.
 use mathlib.Core.Path.{sym, ◌∙◌}
 use Rattle.derive.proofs.Steps.{need-end, need-listed, need-root, need-child, need-on}
-use borrow.Author.Rules.{rules}
 use native.Mathlib.Omega.{arith}
-use Rattle.derive.proofs.needs.Goals as goal
+use Rattle.derive.proofs.+needs.Goals as goal
 
 pub returns-then-left-eq0 : goal.returns-then-left-eq0
 returns-then-left-eq0 t c = need-end _ _ _ _ c.if-left-eq0.true
@@ -14,20 +13,20 @@ returns-then-is_listed t c = need-listed _ _ _ _ c.if-left-eq0.false (sym c.is_l
 
 pub returns-then-edges-k : goal.returns-then-edges-k
 returns-then-edges-k t c =
-    c.is_other.ensures ∙ need-root _ _ _ c.requires.1.0 c.requires.1.1 (sym c.is_listed.ensures ∙ c.if-is_listed.false) _
+    c.is_other.ensures ∙ need-root _ _ _ c.requires.0 c.requires.1 (sym c.is_listed.ensures ∙ c.if-is_listed.false) _
     c.edge_into-k.ensures _ _ c.if-left-eq0.false (omega arith) c.tables.ensures
 
 pub returns-then-edge-u : goal.returns-then-edge-u
 returns-then-edge-u t c =
-    need-child _ _ _ c.requires.1.0 c.requires.1.1 (sym c.is_listed.ensures ∙ c.if-is_listed.false) _ c.edge_into-k.ensures
+    need-child _ _ _ c.requires.0 c.requires.1 (sym c.is_listed.ensures ∙ c.if-is_listed.false) _ c.edge_into-k.ensures
     (omega arith) c.edge_no-edge.ensures _ c.if-left-eq0.false c.if-edge-u.true
 
 pub needs-requires : goal.needs-requires
 needs-requires t c =
-    let there = (c.requires.1.0.joined.rules.edges c.edge_into-k.result (omega arith)).there.table in
-    (omega arith, (c.requires.1.0, omega (arith, c.edge_no-edge.ensures.child-is)))
+    let there = (c.requires.0.joined.rules.edges c.edge_into-k.result (omega arith)).there.table in
+    (omega arith, (c.requires.0, omega (arith, c.edge_no-edge.ensures.child-is)))
 
 pub returns : goal.returns
 returns t c =
-    need-on _ _ _ c.requires.1.0 c.requires.1.1 (sym c.is_listed.ensures ∙ c.if-is_listed.false) _ c.edge_into-k.ensures
+    need-on _ _ _ c.requires.0 c.requires.1 (sym c.is_listed.ensures ∙ c.if-is_listed.false) _ c.edge_into-k.ensures
     (omega arith) c.edge_no-edge.ensures _ _ c.if-left-eq0.false c.if-edge-u.false c.needs.ensures
