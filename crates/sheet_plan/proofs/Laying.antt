@@ -92,7 +92,8 @@ module _ (marks : List ℕ) where
   length-lists zero = length-replicate {A = ℕ} 64 0
   length-lists (suc i) = go (eqb (get_or marks i 0) 1) (length-lists i)
     where
-      go : (b : Bool) → length (lists_to marks i) ≡ 64 → length (cond b (set (lists_to marks i) (8 * (i / 8) + place_no marks i) (i % 8)) (lists_to marks i)) ≡ 64
+      go : (b : Bool) → length (lists_to marks i) ≡ 64
+          → length (cond b (set (lists_to marks i) (8 * (i / 8) + place_no marks i) (i % 8)) (lists_to marks i)) ≡ 64
       go true e = length-set (lists_to marks i) (8 * (i / 8) + place_no marks i) (i % 8) ∙ e
       go false e = e
 

@@ -58,7 +58,8 @@ unfolding shown
 shown-few s t = omega (arith, length-up_to (is_shown s t) (width s t), counted-le (is_shown s t) (width s t))
 
 -- an array filled for the parts 0 to n, read back
-part-read : (f : ℕ → ℕ) (ws : Words) → GoodSheet ws → (part : ℕ) → part ≤ table_count ws → get_or (filled f ((sheet_of ws).n + 1) (replicate 9 0)) part 0 ≡ f part
+part-read : (f : ℕ → ℕ) (ws : Words) → GoodSheet ws → (part : ℕ) → part ≤ table_count ws
+    → get_or (filled f ((sheet_of ws).n + 1) (replicate 9 0)) part 0 ≡ f part
 part-read f ws g part h =
     rw (n-is ws) (get_or-filled f (table_count ws + 1) part 0 (replicate 9 0) (omega arith) (omega (arith, g.joined.rules.counts.tables-few)))
 

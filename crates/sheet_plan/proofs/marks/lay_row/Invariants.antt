@@ -8,7 +8,8 @@ use Rattle.sheet_plan.proofs.marks.lay_row.Given as goal
 
 abbrev pub invariant-loop-k : goal.invariant-loop-k
 invariant-loop-k l =
-    (l.k ≤ 8) × ((l.many ≤ l.k) × ((l.many ≡ counted (has_mark l.marks l.t) l.k) × ((l.lists ≡ lists_to l.marks (8 * l.t + l.k)) × (l.places ≡ places_to l.marks (8 * l.t + l.k)))))
+    (l.k ≤ 8) × ((l.many ≤ l.k) × ((l.many ≡ counted (has_mark l.marks l.t) l.k)
+    × ((l.lists ≡ lists_to l.marks (8 * l.t + l.k)) × (l.places ≡ places_to l.marks (8 * l.t + l.k)))))
 
 abbrev pub decreases-loop-k : goal.decreases-loop-k
 decreases-loop-k l = 8 - l.k
