@@ -5,7 +5,7 @@ use mathlib.Core.Path.{◌≡◌, refl, sym, ap, ap₂, ◌∙◌}
 use mathlib.Core.Bool.{Bool, true, false, not, ◌&&◌, and_assoc}
 use lib.Dec.{leb, leb-zero}
 use borrow.Author.Tests.{leb-true, ltb-true, eqb-true, le-leb, lt-ltb, eq-eqb}
-use Rattle.lists.specs.Lists.{Words, at, between, all, none_twice}
+use Rattle.lists.specs.Lists.{Words, between, all, none_twice}
 use Rattle.lists.specs.Loops.{every, some}
 use Rattle.lists.proofs.Loops.{and-true, every-at}
 use Rattle.meaning.specs.Limits.{most_columns, most_room}
@@ -154,7 +154,8 @@ words_are ws c =
     r = every (λ i. between 0 most_room (room_no ws i)) (table_count ws + 1)
 
     both-listed : (w && every l (listed_count ws) && every f (listed_count ws) && r) ≡ (w && every (listing_passes ws) (listed_count ws) && r)
-    both-listed = ap (λ b. b && r) (and_assoc w (every l (listed_count ws)) (every f (listed_count ws)) ∙ ap (λ b. w && b) (sym (every-and l f (listed_count ws))))
+    both-listed = ap (λ b. b && r) (and_assoc w (every l (listed_count ws)) (every f (listed_count ws))
+        ∙ ap (λ b. w && b) (sym (every-and l f (listed_count ws))))
 
 pub rules : (ws : Words) → Counts ws → good_words (sheet_of ws) ≡ true → Rules ws
 rules ws c h =

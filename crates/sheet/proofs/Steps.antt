@@ -36,7 +36,8 @@ module _ (ws : Words) (k : ℕ) where
       rw (found _ k i e h) (sym (and-false (good_listed (sheet_of ws) (listing_no ws k))))
 
   pub listing-passes : (t c i : ℕ) → t ≡ (listing_no ws k).table → c ≡ (listing_no ws k).column
-      → has_column (sheet_of ws) (listing_no ws k).table (listing_no ws k).column ≡ true → i ≡ first (listing_names ws t c) k → k ≤ i → true ≡ listing_passes ws k
+      → has_column (sheet_of ws) (listing_no ws k).table (listing_no ws k).column ≡ true → i ≡ first (listing_names ws t c) k
+      → k ≤ i → true ≡ listing_passes ws k
   unfolding listing_passes good_listed
   listing-passes t c i p q there x h =
       let e = x ∙ ap₂ (λ (a b : ℕ). first (listing_names ws a b) k) p q in

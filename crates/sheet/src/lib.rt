@@ -1,5 +1,6 @@
 // A sheet: its words read by number, and its check. Any run of words is good, or refused by number.
 #![tactic(auto)]
+
 mod limits;
 mod reading;
 mod rules;

@@ -1,10 +1,14 @@
 -- `conditions_ok` meets its contract.
 -- Assumes nothing.
-use mathlib.Core.Path.{sym, ◌∙◌}
-use mathlib.Core.Bool.{true}
+use mathlib.Core.Path.{refl, sym, ◌∙◌}
 use Rattle.lists.proofs.Loops.{every_more, every-fails, every-end}
+use Rattle.lists.specs.Loops.{every}
 use native.Mathlib.Omega.{arith}
 use Rattle.sheet.proofs.rules.conditions_ok.Goals as goal
+
+pub loop-k-init : goal.loop-k-init
+unfolding every
+loop-k-init c = (omega arith, refl)
 
 pub loop-k-preserved : goal.loop-k-preserved
 loop-k-preserved c = (omega arith, every_more _ _ c.loop-k.invariant.1 (sym c.condition_ok.ensures ∙ c.if-condition_ok.true))

@@ -1,10 +1,14 @@
 -- `listing_of` meets its contract.
 -- Assumes nothing.
-use mathlib.Core.Path.{sym, ◌∙◌}
-use mathlib.Core.Bool.{false}
+use mathlib.Core.Path.{refl, sym, ◌∙◌}
 use Rattle.lists.proofs.Loops.{some_more, first-at, first-end}
+use Rattle.lists.specs.Loops.{some}
 use native.Mathlib.Omega.{arith}
 use Rattle.sheet.proofs.rules.listing_of.Goals as goal
+
+pub loop-k-init : goal.loop-k-init
+unfolding some
+loop-k-init c = (omega arith, refl)
 
 pub returns-then-names_column : goal.returns-then-names_column
 returns-then-names_column c =

@@ -1,10 +1,15 @@
 -- `widths_ok` meets its contract.
 -- Assumes nothing.
-use mathlib.Core.Path.{sym}
+use mathlib.Core.Path.{refl, sym}
 use Rattle.lists.proofs.Loops.{every_more, every-fails, every-end, no}
 use Rattle.sheet.proofs.Facts.{width-facts, width-make}
+use Rattle.lists.specs.Loops.{every}
 use native.Mathlib.Omega.{arith}
 use Rattle.sheet.proofs.rules.widths_ok.Goals as goal
+
+pub loop-t-init : goal.loop-t-init
+unfolding every
+loop-t-init c = (omega arith, refl)
 
 pub returns-then-w-lt1 : goal.returns-then-w-lt1
 returns-then-w-lt1 c = sym (every-fails _ c.loop-t.t _ (omega arith) (sym (no _ (λ h. let f = width-facts _ _ h in omega arith))))

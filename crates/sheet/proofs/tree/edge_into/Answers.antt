@@ -1,12 +1,16 @@
 -- `edge_into` meets its contract.
 -- Assumes nothing.
-use mathlib.Core.Path.{sym, ◌∙◌}
-use mathlib.Core.Bool.{false}
+use mathlib.Core.Path.{refl, sym, ◌∙◌}
 use borrow.Author.Tests.{eq-eqb, ne_eqb}
 use Rattle.lists.proofs.Loops.{some_more, first-at, first-end}
 use Rattle.sheet.specs.Tree.{goes_no}
+use Rattle.lists.specs.Loops.{some}
 use native.Mathlib.Omega.{arith}
 use Rattle.sheet.proofs.tree.edge_into.Goals as goal
+
+pub loop-k-init : goal.loop-k-init
+unfolding some
+loop-k-init c = (omega arith, refl)
 
 pub returns-then-edge-t : goal.returns-then-edge-t
 unfolding goes_no

@@ -1,11 +1,16 @@
 -- `edges_into` meets its contract.
 -- Assumes nothing.
-use mathlib.Core.Path.{sym, ◌∙◌}
+use mathlib.Core.Path.{refl, sym, ◌∙◌}
 use borrow.Author.Tests.{eq-eqb, ne_eqb}
 use Rattle.sheet.specs.Tree.{goes_no}
 use Rattle.sheet.proofs.Numbers.{counted-hit, counted-miss, counted-end}
+use Rattle.sheet.specs.Counted.{counted}
 use native.Mathlib.Omega.{arith}
 use Rattle.sheet.proofs.tree.edges_into.Goals as goal
+
+pub loop-k-init : goal.loop-k-init
+unfolding counted
+loop-k-init c = (omega arith, (omega arith, refl))
 
 pub loop-k-preserved-then-edge-t : goal.loop-k-preserved-then-edge-t
 unfolding goes_no

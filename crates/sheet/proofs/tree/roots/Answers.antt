@@ -1,9 +1,15 @@
 -- `roots` meets its contract.
 -- Assumes nothing.
+use mathlib.Core.Path.{refl}
 use Rattle.sheet.proofs.Numbers.{counted-hit, counted-miss, counted-end}
 use Rattle.sheet.proofs.Into.{root-hit, root-miss}
+use Rattle.sheet.specs.Counted.{counted}
 use native.Mathlib.Omega.{arith}
 use Rattle.sheet.proofs.tree.roots.Goals as goal
+
+pub loop-t-init : goal.loop-t-init
+unfolding counted
+loop-t-init c = (omega arith, (omega arith, refl))
 
 pub loop-t-preserved-then-k-eq0 : goal.loop-t-preserved-then-k-eq0
 loop-t-preserved-then-k-eq0 c = (

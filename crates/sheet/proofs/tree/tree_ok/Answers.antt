@@ -1,7 +1,7 @@
 -- `tree_ok` meets its contract: the three tests are those of `good_tree`, in order.
 -- Assumes nothing.
 use mathlib.Core.Path.{sym, ◌∙◌}
-use borrow.Author.Tests.{eq-eqb, ne_eqb, not-true, not-false}
+use borrow.Author.Tests.{eq-eqb, ne_eqb}
 use Rattle.sheet.proofs.Into.{joined}
 use Rattle.sheet.proofs.Good.{tree-are}
 use Rattle.sheet.proofs.tree.tree_ok.Goals as goal
@@ -15,12 +15,12 @@ returns-then-not-one_into_each c =
       tree-are _ c.requires,
       ← c.roots.ensures,
       eq-eqb _ _ c.if-roots-ne1.false,
-      sym c.one_into_each.ensures ∙ not-true _ c.if-not-one_into_each.true,
+      sym c.one_into_each.ensures ∙ c.if-not-one_into_each.true,
     )
 
 pub all_reached-requires : goal.all_reached-requires
 all_reached-requires c =
-    joined _ c.requires (sym c.one_into_each.ensures ∙ not-false _ c.if-not-one_into_each.false)
+    joined _ c.requires (sym c.one_into_each.ensures ∙ c.if-not-one_into_each.false)
 
 pub returns : goal.returns
 returns c =
@@ -28,5 +28,5 @@ returns c =
       tree-are _ c.requires,
       ← c.roots.ensures,
       eq-eqb _ _ c.if-roots-ne1.false,
-      sym c.one_into_each.ensures ∙ not-false _ c.if-not-one_into_each.false,
+      sym c.one_into_each.ensures ∙ c.if-not-one_into_each.false,
     ) c.all_reached.ensures
