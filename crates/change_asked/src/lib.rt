@@ -1,5 +1,6 @@
 // What a change asks, against the sheet alone: its kind, its table, its rows, and the columns that an update may not alter (refusals 5 and 6).
 #![tactic(auto)]
+
 ghost use Rattle.std.specs.Prelude.{◌≡◌, ◌&&◌, ℕ, ◌+◌, ◌<◌, ◌≤◌, eqb, length};
 ghost use Rattle.lists.specs.Loops.{every, some};
 ghost use Rattle.meaning.specs.Sheet.{condition_count};

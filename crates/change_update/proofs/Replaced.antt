@@ -80,10 +80,12 @@ module _ {ws store : Words} {plan : Plan} (rd : Ready ws store plan) (t : ℕ) (
       (same_test (not (eqb (at plan.kept (root (sheet_of ws))) 0)) (kept (sheet_of ws) (root (sheet_of ws))) yes no))
     where
       yes : T (not (eqb (at plan.kept (root (sheet_of ws))) 0)) → T (kept (sheet_of ws) (root (sheet_of ws)))
-      yes h = marked (sheet_of ws) plan rd.planned (root (sheet_of ws)) (ready-good rd).root_in (λ e. not→F (eqb (at plan.kept (root (sheet_of ws))) 0) h (eq→eqb e))
+      yes h = marked (sheet_of ws) plan rd.planned (root (sheet_of ws)) (ready-good rd).root_in
+          (λ e. not→F (eqb (at plan.kept (root (sheet_of ws))) 0) h (eq→eqb e))
 
       no : T (kept (sheet_of ws) (root (sheet_of ws))) → T (not (eqb (at plan.kept (root (sheet_of ws))) 0))
-      no h = F→not (eqb (at plan.kept (root (sheet_of ws))) 0) (λ e. unmarked (sheet_of ws) plan rd.planned (root (sheet_of ws)) (ready-good rd).root_in (eqb→≡ (at plan.kept (root (sheet_of ws))) 0 e) h)
+      no h = F→not (eqb (at plan.kept (root (sheet_of ws))) 0) (λ e. unmarked (sheet_of ws) plan rd.planned (root (sheet_of ws)) (ready-good rd).root_in
+          (eqb→≡ (at plan.kept (root (sheet_of ws))) 0 e) h)
 
   pub by-plan : (b : Bool) → b ≡ can_take_by plan t → b ≡ true → (a : Taken) → WaysTaken ws store t r numbers a → ReplacedTaken ws store t r numbers a
   by-plan b e can a h = by-ways (is_t (sym take_by ∙ sym e ∙ can)) a h

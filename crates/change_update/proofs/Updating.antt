@@ -47,7 +47,8 @@ use Rattle.change_taken.specs.declared.Taken.TheVariants.{All, Contrary}
 use Rattle.change_update.specs.Updates.{ReplacedTaken, Updates}
 
 module _ {ws store : Words} {plan : Plan} (rd : Ready ws store plan) {t : ℕ} {r : Row} (lent : Lent ws t r) (r' : Row)
-    (q : Bool) (eq : q ≡ qualifies (sheet_of ws) (model_of (sheet_of ws) store) t r) (b : Bool) (eb : b ≡ old_row (sheet_of ws) (model_of (sheet_of ws) store) t r)
+    (q : Bool) (eq : q ≡ qualifies (sheet_of ws) (model_of (sheet_of ws) store) t r)
+    (b : Bool) (eb : b ≡ old_row (sheet_of ws) (model_of (sheet_of ws) store) t r)
   where
     -- the side table contradicts it
     pub updates-contradicts-side : not b ≡ true → Updates ws store t r r' (Refused 8) store

@@ -1,5 +1,6 @@
 // An update below its tests 1 to 7, on a sound store: contradiction, and then the list's rows and the side row are replaced.
 #![tactic(auto)]
+
 ghost use Rattle.std.specs.Prelude.{◌≡◌, ◌<◌, length};
 ghost use Rattle.meaning.specs.Limits.{most_tables, most_room};
 ghost use Rattle.meaning.specs.Sheet.{sheet_of};

@@ -17,7 +17,7 @@ use Rattle.rows.specs.Rows.{Rows, rising, pick}
 use Rattle.rows.specs.Regions.{laid, Holds}
 use Rattle.rows.proofs.Sorted.{rising-sorted}
 use Rattle.meaning.specs.Sheet.{room, sheet_of, table_count}
-use Rattle.meaning.specs.Plan.{kept, shown, columns, size}
+use Rattle.meaning.specs.Plan.{shown, columns, size}
 use Rattle.meaning.specs.Meaning.{side_table, qualified_in}
 use Rattle.meaning.specs.Store.{part_rows, part_words}
 use Rattle.laws.proofs.Lists.{at-up_to}

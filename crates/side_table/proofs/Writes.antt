@@ -14,7 +14,7 @@ use Rattle.rows.specs.declared.Found.{Found}
 use Rattle.rows.specs.declared.Found.TheVariants.{At, Missing}
 use Rattle.rows.proofs.Ranks.{There, found-row, missing-row}
 use Rattle.rows.proofs.Keys.{Replaced, replace-side}
-use Rattle.meaning.specs.Sheet.{Sheet, room}
+use Rattle.meaning.specs.Sheet.{Sheet}
 use Rattle.meaning.specs.Plan.{kept, shown}
 use Rattle.meaning.specs.Meaning.{Model}
 use Rattle.meaning.specs.Store.{part_rows, rows_at}
@@ -114,6 +114,7 @@ module _ {s : Sheet} {t : ℕ} {q : Part} (side : Side s t q) {ws : Words} (m : 
       pub replace-kept : (after : Words) → Wrote q (set (rows_in q ws) i (take q.columns row)) ws after → SideReplaced s t old new ws after
       unfolding put_rows take_rows
       replace-kept after w =
-          side-wrote side m (λ (rows : Rows). put_rows (side_row s t new) (take_rows (side_row s t old) rows)) (set (rows_in q ws) i (take q.columns row)) after w
+          side-wrote side m (λ (rows : Rows). put_rows (side_row s t new) (take_rows (side_row s t old) rows))
+          (set (rows_in q ws) i (take q.columns row)) after w
           (ap (set (rows_in q ws) i) (side-head side b) ∙ sym is.is
           ∙ ap₂ (λ (xs ys : Rows). put_rows xs (take_rows ys (rows_in q ws))) (sym (one new)) (sym (one old)))

@@ -1,5 +1,6 @@
 // The changed table's own side table: what the tests ask of it, and its row put in, taken out or replaced. An unkept table has none.
 #![tactic(auto)]
+
 ghost use Rattle.std.specs.Prelude.{◌≡◌, ℕ, ◌<◌, T, length};
 ghost use Rattle.rows.specs.Rows.{pick};
 ghost use Rattle.meaning.specs.Sheet.{sheet_of, width};

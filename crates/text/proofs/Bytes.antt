@@ -93,7 +93,8 @@ module _ (r : Reader) (d : ℕ) where
   digit-too-large l = digit-broken (le-ltb (r.number * 10 + d) (2 ^ 64) (omega arith))
 
 -- bytes one after the other
-pub bytes-more : (r q : Reader) (bs : Text) (i : ℕ) → i < length bs → q ≡ after_bytes r (take i bs) → after_byte q (get_or bs i 0) ≡ after_bytes r (take (i + 1) bs)
+pub bytes-more : (r q : Reader) (bs : Text) (i : ℕ) → i < length bs → q ≡ after_bytes r (take i bs)
+    → after_byte q (get_or bs i 0) ≡ after_bytes r (take (i + 1) bs)
 unfolding after_bytes
 bytes-more r q bs i h e = rw (add-one, take-suc bs i 0 h, e) (go r (take i bs) (get_or bs i 0))
   where

@@ -22,7 +22,8 @@ pub lines_more : (line : ℕ → Text) (s s' s'' : List ℕ) (at end end' t : �
 unfolding lines_up_to
 lines_more line s s' s'' at end end' t w m = rw add-one (wrote_then w m)
 
-pub lines_end : (line : ℕ → Text) (s s' : List ℕ) (at end k n : ℕ) → k ≤ n → n ≤ k → PutAt s at (lines_up_to line k) s' end → PutAt s at (lines_up_to line n) s' end
+pub lines_end : (line : ℕ → Text) (s s' : List ℕ) (at end k n : ℕ) → k ≤ n → n ≤ k → PutAt s at (lines_up_to line k) s' end
+    → PutAt s at (lines_up_to line n) s' end
 lines_end line s s' at end k n a b w = rw (← le_antisymm a b) w
 
 -- the lines of tables in a list are the lines by number

@@ -87,7 +87,8 @@ module _ (p : ℕ → Bool) (s : List ℕ) (at : ℕ) where
     pub passing-over : p k ≡ false → PassingPut p s at (k + 1) s' end
     passing-over h = record { wrote = rw (select-more p k, h, append-nil) w.wrote; short = omega arith; not-before = w.not-before; long = w.long }
 
-    pub passing-in : p k ≡ true → k < 10 → (s'' : List ℕ) (end'' : ℕ) → PutAt s' end (member_text (ltb at end) k) s'' end'' → PassingPut p s at (k + 1) s'' end''
+    pub passing-in : p k ≡ true → k < 10 → (s'' : List ℕ) (end'' : ℕ) → PutAt s' end (member_text (ltb at end) k) s'' end''
+        → PassingPut p s at (k + 1) s'' end''
     passing-in h l s'' end'' m =
         let e : ltb at end ≡ is_some (select p (up_to k)) = ap (ltb at) w.wrote.end_is ∙ some-text (select p (up_to k)) at in
         record {

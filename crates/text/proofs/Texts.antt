@@ -102,7 +102,8 @@ from_pieces begun v (b ∷ bs) h z =
     w : ℕ
     w = v * 10 + (b - 48)
 
-    large : (p : Text) (ps : List Text) → pieces bs ≡ p ∷ ps → (w < 2 ^ 64 → read_from true w bs ≡ read_hand true w (pieces bs)) → (l : Bool) → ltb w (2 ^ 64) ≡ l
+    large : (p : Text) (ps : List Text) → pieces bs ≡ p ∷ ps → (w < 2 ^ 64 → read_from true w bs ≡ read_hand true w (pieces bs))
+        → (l : Bool) → ltb w (2 ^ 64) ≡ l
         → cond l (read_from true w bs) isnt ≡ read_hand true w (p ∷ ps)
     large p ps e ih true l = ih (ltb-true _ _ l) ∙ ap (read_hand true w) e
     large p ps e ih false l = failing _ _ _ (too_large (all is_digit p) (onward w p) w (onward-le p w) l)

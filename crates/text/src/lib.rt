@@ -1,5 +1,6 @@
 // The text of a sheet and of a plan: what is read byte by byte, and what is printed for it.
 #![tactic(auto)]
+
 mod printing;
 mod reading;
 

@@ -2,7 +2,6 @@
 -- Assumes nothing.
 use mathlib.Core.Path.{◌∙◌}
 use Rattle.change_asked.proofs.Tests.{no_table, no_kind, asked-insert, asked-delete, asked-update}
-use borrow.Author.Rules.{rules}
 use native.Mathlib.Omega.{arith}
 use Rattle.change_asked.proofs.asked.Goals as goal
 

@@ -1,11 +1,15 @@
 -- `in_condition` meets its contract. The loop's invariant: no condition before k speaks of the column.
 -- Assumes nothing.
 use Rattle.change_asked.proofs.Tests.{on-yes, on-other, on-elsewhere}
-use mathlib.Core.Path.{sym}
-use mathlib.Core.Bool.{false}
+use mathlib.Core.Path.{refl, sym}
 use Rattle.lists.proofs.Loops.{some_more, some-hit, some_end}
 use native.Mathlib.Omega.{arith}
+use Rattle.lists.specs.Loops.{some}
 use Rattle.change_asked.proofs.in_condition.Goals as goal
+
+pub loop-k-init : goal.loop-k-init
+unfolding some
+loop-k-init c = (omega arith, refl)
 
 pub returns-then-condition-c : goal.returns-then-condition-c
 returns-then-condition-c c =

@@ -1,11 +1,15 @@
 -- `tied_stay` meets its contract. The loop's invariant: no tied column before k differs.
 -- Assumes nothing.
-use mathlib.Core.Path.{sym, ◌∙◌}
-use mathlib.Core.Bool.{true}
+use mathlib.Core.Path.{refl, sym, ◌∙◌}
 use Rattle.lists.proofs.Loops.{every_more, every-fails, every-end}
 use Rattle.change_asked.proofs.Tests.{stays_same, stays-free, stays-not}
 use native.Mathlib.Omega.{arith}
+use Rattle.lists.specs.Loops.{every}
 use Rattle.change_asked.proofs.tied_stay.Goals as goal
+
+pub loop-k-init : goal.loop-k-init
+unfolding every
+loop-k-init c = (omega arith, refl)
 
 pub returns-then-is_tied : goal.returns-then-is_tied
 returns-then-is_tied c =

@@ -1,7 +1,7 @@
 -- `two_rows` meets its contract. Each return says one of the four tests.
 -- Assumes nothing.
 use mathlib.Core.Path.{sym, ◌∙◌}
-use borrow.Author.Tests.{eq-eqb, ne_eqb, not-true, not-false}
+use borrow.Author.Tests.{eq-eqb, ne_eqb}
 use Rattle.change_asked.specs.Asked.{two_rows}
 use Rattle.change_asked.proofs.two_rows.Goals as goal
 
@@ -25,7 +25,7 @@ returns-then-not-tied_stay c =
       eq-eqb _ _ c.if-old-w.false,
       eq-eqb _ _ c.if-new-w.false,
       eq-eqb _ _ c.if-old-new.false,
-      sym c.tied_stay.ensures ∙ not-true _ c.if-not-tied_stay.true,
+      sym c.tied_stay.ensures ∙ c.if-not-tied_stay.true,
     )
 
 pub returns : goal.returns
@@ -35,5 +35,5 @@ returns c =
       eq-eqb _ _ c.if-old-w.false,
       eq-eqb _ _ c.if-new-w.false,
       eq-eqb _ _ c.if-old-new.false,
-      sym c.tied_stay.ensures ∙ not-false _ c.if-not-tied_stay.false,
+      sym c.tied_stay.ensures ∙ c.if-not-tied_stay.false,
     )

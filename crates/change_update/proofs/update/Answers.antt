@@ -1,11 +1,13 @@
 -- `update` meets its contract.
 -- Assumes nothing.
-use mathlib.Core.Path.{refl, sym}
+use mathlib.Core.Bool.{not}
+use mathlib.Core.Path.{refl, sym, ap}
 use lib.Seq.{length-take-le}
 use Rattle.change_laws.proofs.Halves.{ready-ground, ready-list, ready-table, ready-tables, half-modelled}
 use Rattle.change_taken.proofs.Finding.{fits-lent}
 use Rattle.change_update.proofs.Updating.{updates-contradicts-side, updates-none, updates-contradicts-list}
 use Rattle.change_update.proofs.Updating.{numbers-few, rows-replaceable, rows-show, replaceable, updates-done}
+use borrow.Author.Rules.{rules}
 use native.Mathlib.Omega.{arith}
 use Rattle.change_update.proofs.update.Goals as goal
 
@@ -28,11 +30,12 @@ old_row-requires c =
 
 pub returns-then-not-old_row : goal.returns-then-not-old_row
 returns-then-not-old_row c =
-    updates-contradicts-side c.requires.ready c.requires.lent _ _ c.is_qualified-qualified.ensures _ c.old_row.ensures c.if-not-old_row.true
+    updates-contradicts-side c.requires.ready c.requires.lent _ _ c.is_qualified-qualified.ensures _ c.old_row.ensures (ap not c.if-not-old_row.true)
 
 pub returns-then-not-qualified : goal.returns-then-not-qualified
 returns-then-not-qualified c =
-    updates-none c.requires.ready c.requires.lent _ _ c.is_qualified-qualified.ensures _ c.old_row.ensures c.if-not-old_row.false c.if-not-qualified.true
+    updates-none c.requires.ready c.requires.lent _ _ c.is_qualified-qualified.ensures _ c.old_row.ensures
+    (ap not c.if-not-old_row.false) (ap not c.if-not-qualified.true)
 
 pub part_of-list-requires : goal.part_of-list-requires
 part_of-list-requires c =
@@ -53,26 +56,32 @@ mark_replaced-a-requires c =
 
 pub returns-in_default : goal.returns-in_default
 returns-in_default c =
-    updates-contradicts-list c.requires.ready c.requires.lent _ _ c.is_qualified-qualified.ensures _ c.old_row.ensures c.if-not-old_row.false
-    c.if-not-qualified.false _ _ c.mark_replaced-a.ensures c.in_default.is
+    updates-contradicts-list c.requires.ready c.requires.lent _ _ c.is_qualified-qualified.ensures _ c.old_row.ensures (ap not c.if-not-old_row.false)
+    (ap not c.if-not-qualified.false) _ _ c.mark_replaced-a.ensures c.in_default.is
 
 pub slice_bounds-marked-end : goal.slice_bounds-marked-end
 slice_bounds-marked-end c =
-    numbers-few c.requires.ready c.requires.lent c.args.new.now _ c.is_qualified-qualified.ensures _ c.old_row.ensures c.if-not-old_row.false
-    c.if-not-qualified.false _ _ c.mark_replaced-a.ensures _ c.in-All.is _
-    (ready-list c.requires.ready _ c.part_of-list.ensures) _ c.marked-2-1.given (omega arith)
+    numbers-few c.requires.ready c.requires.lent c.args.new.now _ c.is_qualified-qualified.ensures _ c.old_row.ensures (ap not c.if-not-old_row.false)
+    (ap not c.if-not-qualified.false) _ _ c.mark_replaced-a.ensures _ c.in-All.is _
+    (ready-list c.requires.ready _ c.part_of-list.ensures) 4096 (search rules) (omega arith)
 
 pub slice_bounds-replace_rows-end : goal.slice_bounds-replace_rows-end
-slice_bounds-replace_rows-end c = sym (length-take-le _ _ (array-share-prefix-marked c))
+slice_bounds-replace_rows-end c =
+    let within : _ =
+    numbers-few c.requires.ready c.requires.lent c.args.new.now _ c.is_qualified-qualified.ensures _ c.old_row.ensures (ap not c.if-not-old_row.false)
+    (ap not c.if-not-qualified.false) _ _ c.mark_replaced-a.ensures _ c.in-All.is _
+    (ready-list c.requires.ready _ c.part_of-list.ensures) 4096 (search rules) (omega arith) in
+    sym (length-take-le _ _ within)
 
 pub replace_rows-requires : goal.replace_rows-requires
 replace_rows-requires c =
     let lies = ready-list c.requires.ready _ c.part_of-list.ensures in record {
-      replaceable = rows-replaceable c.requires.ready c.requires.lent _ _ c.is_qualified-qualified.ensures _ c.old_row.ensures c.if-not-old_row.false
-        c.if-not-qualified.false _ _ c.mark_replaced-a.ensures _ c.in-All.is _ lies c.requires.lent_2;
+      replaceable = rows-replaceable c.requires.ready c.requires.lent _ _ c.is_qualified-qualified.ensures _ c.old_row.ensures (ap not c.if-not-old_row.false)
+          (ap not c.if-not-qualified.false) _ _ c.mark_replaced-a.ensures _ c.in-All.is _ lies c.requires.lent_2;
       fits = fits-lent _ _ _ c.requires.lent;
-      all_show = rows-show c.requires.ready c.requires.lent c.args.new.now _ c.is_qualified-qualified.ensures _ c.old_row.ensures c.if-not-old_row.false
-        c.if-not-qualified.false _ _ c.mark_replaced-a.ensures _ c.in-All.is _ lies;
+      all_show = rows-show c.requires.ready c.requires.lent c.args.new.now _ c.is_qualified-qualified.ensures _ c.old_row.ensures
+          (ap not c.if-not-old_row.false)
+          (ap not c.if-not-qualified.false) _ _ c.mark_replaced-a.ensures _ c.in-All.is _ lies;
     }
 
 pub replace_side-requires : goal.replace_side-requires
@@ -83,14 +92,14 @@ replace_side-requires c =
       len = c.requires.lent.wide;
       len_2 = c.requires.lent_2.wide;
       modelled = half-modelled c.requires.ready _ lies _ _ c.replace_rows.ensures;
-      replaceable = replaceable c.requires.ready c.requires.lent _ _ c.is_qualified-qualified.ensures _ c.old_row.ensures c.if-not-old_row.false
-        c.if-not-qualified.false _ _ c.mark_replaced-a.ensures c.requires.tied _ c.in-All.is _ lies _
-        c.replace_rows.ensures;
+      replaceable = replaceable c.requires.ready c.requires.lent _ _ c.is_qualified-qualified.ensures _ c.old_row.ensures (ap not c.if-not-old_row.false)
+          (ap not c.if-not-qualified.false) _ _ c.mark_replaced-a.ensures c.requires.tied _ c.in-All.is _ lies _
+          c.replace_rows.ensures;
     }
 
 pub returns : goal.returns
 returns c =
     let lies = ready-list c.requires.ready _ c.part_of-list.ensures in
-    updates-done c.requires.ready c.requires.lent _ _ c.is_qualified-qualified.ensures _ c.old_row.ensures c.if-not-old_row.false
-    c.if-not-qualified.false _ _ c.mark_replaced-a.ensures c.requires.tied _ c.in-All.is _ lies _ c.replace_rows.ensures _
+    updates-done c.requires.ready c.requires.lent _ _ c.is_qualified-qualified.ensures _ c.old_row.ensures (ap not c.if-not-old_row.false)
+    (ap not c.if-not-qualified.false) _ _ c.mark_replaced-a.ensures c.requires.tied _ c.in-All.is _ lies _ c.replace_rows.ensures _
     c.replace_side.ensures

@@ -1,7 +1,6 @@
 -- `sides_fit` meets its contract. The loop's invariant: the side tables before t have room.
 -- Assumes nothing.
 use mathlib.Core.Path.{refl, sym, ◌∙◌}
-use mathlib.Core.Bool.{true}
 use Rattle.lists.specs.Loops.{every}
 use Rattle.lists.proofs.Loops.{every_more, every-fails, every-end}
 use native.Mathlib.Omega.{arith}

@@ -10,19 +10,19 @@ use Rattle.side_table.proofs.find_side.Goals as goal
 pub slice_bounds-row-end : goal.slice_bounds-row-end
 slice_bounds-row-end c =
     let side : Side (sheet_of c.args.sheet.now) c.args.t c.part_of-p.result =
-        side-planned _ _ c.requires.good_plan _ c.requires.t_bound c.requires.t _ c.part_of-p.ensures in
+    side-planned _ _ c.requires.good_plan _ c.requires.t_bound c.requires.t _ c.part_of-p.ensures in
     omega (arith, side-narrow (side))
 
 pub slice_bounds-find_row-end : goal.slice_bounds-find_row-end
 slice_bounds-find_row-end c =
     let side : Side (sheet_of c.args.sheet.now) c.args.t c.part_of-p.result =
-        side-planned _ _ c.requires.good_plan _ c.requires.t_bound c.requires.t _ c.part_of-p.ensures in
+    side-planned _ _ c.requires.good_plan _ c.requires.t_bound c.requires.t _ c.part_of-p.ensures in
     sym (side-long (side) c.side_words-row.ensures)
 
 pub find_row-requires : goal.find_row-requires
 find_row-requires c =
     let side : Side (sheet_of c.args.sheet.now) c.args.t c.part_of-p.result =
-        side-planned _ _ c.requires.good_plan _ c.requires.t_bound c.requires.t _ c.part_of-p.ensures in
+    side-planned _ _ c.requires.good_plan _ c.requires.t_bound c.requires.t _ c.part_of-p.ensures in
     record {
       kept = side-kept (side) c.requires.modelled;
       r_len = side-long (side) c.side_words-row.ensures;
@@ -31,5 +31,5 @@ find_row-requires c =
 pub returns : goal.returns
 returns c =
     let side : Side (sheet_of c.args.sheet.now) c.args.t c.part_of-p.result =
-        side-planned _ _ c.requires.good_plan _ c.requires.t_bound c.requires.t _ c.part_of-p.ensures in
+    side-planned _ _ c.requires.good_plan _ c.requires.t_bound c.requires.t _ c.part_of-p.ensures in
     c.find_row.ensures ∙ ap₂ found_row (side-head (side) c.side_words-row.ensures) (side-rows (side) _)

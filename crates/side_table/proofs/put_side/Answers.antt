@@ -16,7 +16,7 @@ returns-then-plan-t-eq0 c =
 pub side_words-row-requires : goal.side_words-row-requires
 side_words-row-requires c =
     let side : Side (sheet_of c.args.sheet.now) c.args.t c.part_of-p.result =
-        side-marked _ _ c.requires.good_plan _ c.requires.t_bound c.if-plan-t-eq0.false _ c.part_of-p.ensures in
+    side-marked _ _ c.requires.good_plan _ c.requires.t_bound c.if-plan-t-eq0.false _ c.part_of-p.ensures in
     record {
       good_plan = c.requires.good_plan;
       t_bound = c.requires.t_bound;
@@ -27,19 +27,19 @@ side_words-row-requires c =
 pub slice_bounds-row-end : goal.slice_bounds-row-end
 slice_bounds-row-end c =
     let side : Side (sheet_of c.args.sheet.now) c.args.t c.part_of-p.result =
-        side-marked _ _ c.requires.good_plan _ c.requires.t_bound c.if-plan-t-eq0.false _ c.part_of-p.ensures in
+    side-marked _ _ c.requires.good_plan _ c.requires.t_bound c.if-plan-t-eq0.false _ c.part_of-p.ensures in
     omega (arith, side-narrow (side))
 
 pub slice_bounds-put_row-end : goal.slice_bounds-put_row-end
 slice_bounds-put_row-end c =
     let side : Side (sheet_of c.args.sheet.now) c.args.t c.part_of-p.result =
-        side-marked _ _ c.requires.good_plan _ c.requires.t_bound c.if-plan-t-eq0.false _ c.part_of-p.ensures in
+    side-marked _ _ c.requires.good_plan _ c.requires.t_bound c.if-plan-t-eq0.false _ c.part_of-p.ensures in
     sym (side-long (side) c.side_words-row.ensures)
 
 pub put_row-requires : goal.put_row-requires
 put_row-requires c =
     let side : Side (sheet_of c.args.sheet.now) c.args.t c.part_of-p.result =
-        side-marked _ _ c.requires.good_plan _ c.requires.t_bound c.if-plan-t-eq0.false _ c.part_of-p.ensures in
+    side-marked _ _ c.requires.good_plan _ c.requires.t_bound c.if-plan-t-eq0.false _ c.part_of-p.ensures in
     record {
       kept = side-kept (side) c.requires.modelled;
       store_bound = room-left (side) c.requires.modelled c.requires.t;
@@ -49,5 +49,5 @@ put_row-requires c =
 pub returns : goal.returns
 returns c =
     let side : Side (sheet_of c.args.sheet.now) c.args.t c.part_of-p.result =
-        side-marked _ _ c.requires.good_plan _ c.requires.t_bound c.if-plan-t-eq0.false _ c.part_of-p.ensures in
+    side-marked _ _ c.requires.good_plan _ c.requires.t_bound c.if-plan-t-eq0.false _ c.part_of-p.ensures in
     put-kept (side) c.requires.modelled c.side_words-row.ensures _ c.put_row.ensures

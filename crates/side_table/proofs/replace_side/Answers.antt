@@ -33,7 +33,7 @@ returns-in_default c =
 pub side_words-row-requires : goal.side_words-row-requires
 side_words-row-requires c =
     let side : Side (sheet_of c.args.sheet.now) c.args.t c.part_of-p.result =
-        side-marked _ _ c.requires.good_plan _ c.requires.t_bound c.if-plan-t-eq0.false _ c.part_of-p.ensures in
+    side-marked _ _ c.requires.good_plan _ c.requires.t_bound c.if-plan-t-eq0.false _ c.part_of-p.ensures in
     record {
       good_plan = c.requires.good_plan;
       t_bound = c.requires.t_bound;
@@ -44,19 +44,19 @@ side_words-row-requires c =
 pub slice_bounds-row-end : goal.slice_bounds-row-end
 slice_bounds-row-end c =
     let side : Side (sheet_of c.args.sheet.now) c.args.t c.part_of-p.result =
-        side-marked _ _ c.requires.good_plan _ c.requires.t_bound c.if-plan-t-eq0.false _ c.part_of-p.ensures in
+    side-marked _ _ c.requires.good_plan _ c.requires.t_bound c.if-plan-t-eq0.false _ c.part_of-p.ensures in
     omega (arith, side-narrow (side))
 
 pub slice_bounds-replace_row-end : goal.slice_bounds-replace_row-end
 slice_bounds-replace_row-end c =
     let side : Side (sheet_of c.args.sheet.now) c.args.t c.part_of-p.result =
-        side-marked _ _ c.requires.good_plan _ c.requires.t_bound c.if-plan-t-eq0.false _ c.part_of-p.ensures in
+    side-marked _ _ c.requires.good_plan _ c.requires.t_bound c.if-plan-t-eq0.false _ c.part_of-p.ensures in
     sym (side-long (side) c.side_words-row.ensures)
 
 pub replace_row-requires : goal.replace_row-requires
 replace_row-requires c =
     let side : Side (sheet_of c.args.sheet.now) c.args.t c.part_of-p.result =
-        side-marked _ _ c.requires.good_plan _ c.requires.t_bound c.if-plan-t-eq0.false _ c.part_of-p.ensures in
+    side-marked _ _ c.requires.good_plan _ c.requires.t_bound c.if-plan-t-eq0.false _ c.part_of-p.ensures in
     record {
       kept = side-kept (side) c.requires.modelled;
       at_bound = replace-below (side) c.requires.modelled c.requires.replaceable _ c.find_side-f.ensures _ c.in-At.is;
@@ -67,5 +67,5 @@ replace_row-requires c =
 pub returns : goal.returns
 returns c =
     let side : Side (sheet_of c.args.sheet.now) c.args.t c.part_of-p.result =
-        side-marked _ _ c.requires.good_plan _ c.requires.t_bound c.if-plan-t-eq0.false _ c.part_of-p.ensures in
+    side-marked _ _ c.requires.good_plan _ c.requires.t_bound c.if-plan-t-eq0.false _ c.part_of-p.ensures in
     replace-kept (side) c.requires.modelled c.requires.replaceable _ c.find_side-f.ensures _ c.in-At.is c.side_words-row.ensures _ c.replace_row.ensures

@@ -12,11 +12,11 @@ loop-t-init c = (search rules, refl, search rules, lines_none _ _ _)
 
 pub put_line-end-requires : goal.put_line-end-requires
 put_line-end-requires c = record {
-      t_in_bounds = omega arith;
-      t_in_bounds_2 = omega arith;
-      t_in_bounds_3 = omega arith;
-      at_in_bounds = omega arith;
-    }
+  t_in_bounds = omega arith;
+  t_in_bounds_2 = omega arith;
+  t_in_bounds_3 = omega arith;
+  at_in_bounds = omega arith;
+}
 
 pub loop-t-preserved : goal.loop-t-preserved
 unfolding line_of
@@ -28,6 +28,6 @@ shape_of-out c = c.loop-t.invariant.1
 
 pub returns : goal.returns
 returns c = record {
-      put_at = lines_end _ _ _ _ _ _ _ c.loop-t.invariant.0 c.loop-t-test.false c.loop-t.invariant.3;
-      upper_bound = omega arith;
-    }
+  put_at = lines_end _ _ _ _ _ _ _ c.loop-t.invariant.0 c.loop-t-test.false c.loop-t.invariant.3;
+  upper_bound = omega arith;
+}

@@ -8,19 +8,12 @@ use Rattle.text.proofs.printing.put_plan.Goals as goal
 
 pub returns-then-a-ne0 : goal.returns-then-a-ne0
 returns-then-a-ne0 c = record {
-      put_at = wrote_as (refused-answer _ c.if-a-ne0.true) c.put_refused.ensures.put_at;
-      upper_bound = search rules;
-    }
+  put_at = wrote_as (refused-answer _ c.if-a-ne0.true) c.put_refused.ensures.put_at;
+  upper_bound = search rules;
+}
 
-pub put_lines-requires : goal.put_lines-requires
-put_lines-requires c =
-    record {
-      n_in_bounds = omega (arith, slice-aggregate-put-lines c);
-      n_in_bounds_2 = omega (arith, slice-aggregate-put-lines-2 c);
-      n_in_bounds_3 = omega (arith, slice-aggregate-put-lines-3 c);
-      n_in_bounds_4 = omega (arith, slice-aggregate-put-lines-4 c);
-      n_in_bounds_5 = omega (arith, c.put_head-end.ensures.upper_bound);
-    }
+pub put_lines-requires-clause-n_in_bounds_5 : goal.put_lines-requires-clause-n_in_bounds_5
+put_lines-requires-clause-n_in_bounds_5 c = omega (arith, c.put_head-end.ensures.upper_bound)
 
 pub returns : goal.returns
 returns c =

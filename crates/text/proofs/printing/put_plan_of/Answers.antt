@@ -11,12 +11,12 @@ use Rattle.text.proofs.printing.put_plan_of.Goals as goal
 
 pub put_plan-requires : goal.put_plan-requires
 put_plan-requires c = record {
-      tables_le_most_tables = subst (λ (a : PlanAnswer). a.tables ≤ 8) (sym c.plan_of-a.ensures) (few-tables _);
-      page_in_bounds = search rules;
-    }
+  tables_le_most_tables = subst (λ (a : PlanAnswer). a.tables ≤ 8) (sym c.plan_of-a.ensures) (few-tables _);
+  page_in_bounds = search rules;
+}
 
 pub returns : goal.returns
 returns c = record {
-      put_at = wrote_as (ap answer_text c.plan_of-a.ensures ∙ laid-text _) c.put_plan.ensures.put_at;
-      upper_bound = c.put_plan.ensures.upper_bound;
-    }
+  put_at = wrote_as (ap answer_text c.plan_of-a.ensures ∙ laid-text _) c.put_plan.ensures.put_at;
+  upper_bound = c.put_plan.ensures.upper_bound;
+}

@@ -13,9 +13,9 @@ loop-i-init c = (search rules, passing-none _ _ _)
 
 pub put_member-end-requires : goal.put_member-end-requires
 put_member-end-requires c = record {
-      x_bound = omega arith;
-      at_in_bounds = omega arith;
-    }
+  x_bound = omega arith;
+  at_in_bounds = omega arith;
+}
 
 pub loop-i-preserved-then-marks-t-eq1 : goal.loop-i-preserved-then-marks-t-eq1
 unfolding has_mark

@@ -1,8 +1,11 @@
 -- `Reader::take_byte` meets its contract, by what the byte is.
 -- Assumes nothing.
-use mathlib.Core.Logic.{⊎_elim}
+use mathlib.Core.Path.{◌≡◌}
+use mathlib.Core.Logic.{◌⊎◌, ⊎_elim}
+use native.Mathlib.Omega.{arith}
 use Rattle.text.proofs.Bytes.{blank, no-blank, digit, below-digits, above-digits, byte-failed, byte-blank, byte-digit, byte-other}
 use Rattle.text.proofs.reading.Reader.take_byte.Goals as goal
+use Rattle.text.proofs.reading.Reader.take_byte.Goals.{in_default-via-then-b-lt48, in_default-via-else-b-lt48+else-b-lt58}
 
 pub returns-then-self : goal.returns-then-self
 returns-then-self c = byte-failed _ c.args.self _ c.if-self.true
@@ -12,10 +15,13 @@ returns-in-32 c = byte-blank _ _ _ c.if-self.false (blank _ c.in-32.is) c.take_b
 
 pub returns-in-48-to-57 : goal.returns-in-48-to-57
 returns-in-48-to-57 c =
-    byte-digit _ _ _ c.if-self.false (no-blank _ c.in_default-1.rest.1) (digit _ c.in-48-to-57.if-b-lt48-own.false c.in-48-to-57.if-b-lt58-own.true)
-    c.take_digit.ensures
+    let blankless : (c.args.b ≡ 10) ⊎ (c.args.b ≡ 32) → ⊥ = λ h. ⊎_elim (λ e. omega arith) (λ e. omega arith) h in
+    byte-digit _ _ _ c.if-self.false (no-blank _ blankless) (digit _ (omega arith) (omega arith)) c.take_digit.ensures
 
 pub returns-in_default : goal.returns-in_default
 returns-in_default c =
-    let other = ⊎_elim (λ w. below-digits _ w.taken) (λ w. above-digits _ w.1.left) c.in-48-to-57.if-b-lt48-own.branch in
-    byte-other _ _ _ c.if-self.false (no-blank _ c.in_default-1.rest.1) other c.broken.ensures
+    let blankless : (c.args.b ≡ 10) ⊎ (c.args.b ≡ 32) → ⊥ = λ h. ⊎_elim (λ e. omega arith) (λ e. omega arith) h in
+    elim c.in_default.branch [
+      | in_default-via-then-b-lt48 w ↦ byte-other _ _ _ c.if-self.false (no-blank _ blankless) (below-digits _ (omega arith)) c.broken.ensures
+      | in_default-via-else-b-lt48+else-b-lt58 w ↦ byte-other _ _ _ c.if-self.false (no-blank _ blankless) (above-digits _ (omega arith)) c.broken.ensures
+    ]
