@@ -10,7 +10,7 @@ use Rattle.sheet.proofs.rules.condition_ok.Goals as goal
 pub returns-then-not-has_column : goal.returns-then-not-has_column
 returns-then-not-has_column c =
     condition-absent _ _ (column-read _ _ _ _ _ _ c.condition_no-d.ensures.table_is c.condition_no-d.ensures.column-is c.has_column.ensures
-    ∙ c.if-not -has_column.true)
+    ∙ c.if-not-has_column.true)
 
 pub returns-then-d : goal.returns-then-d
 returns-then-d c = no _ (λ h. let f = condition-facts _ _ h in omega arith)

@@ -7,7 +7,7 @@ use Rattle.sheet.proofs.rules.listing_ok.Goals as goal
 pub returns-then-not-has_column : goal.returns-then-not-has_column
 returns-then-not-has_column c =
     listing-absent _ _ (column-read _ _ _ _ _ _ c.listing_no-l.ensures.table_is c.listing_no-l.ensures.column-is c.has_column.ensures
-    ∙ c.if-not -has_column.true)
+    ∙ c.if-not-has_column.true)
 
 pub returns-then-listing_of-k : goal.returns-then-listing_of-k
 returns-then-listing_of-k c =
