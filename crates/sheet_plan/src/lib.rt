@@ -1,5 +1,6 @@
 // The plan of a good sheet: what the calls need of it, as arrays table by table, beside the verdict.
 #![tactic(auto)]
+
 mod marks;
 mod outward;
 

@@ -4,7 +4,13 @@ use Rattle.lists.proofs.Loops.{filled_more}
 use Rattle.sheet_plan.specs.Plans.{columns_of}
 use Rattle.sheet_plan.proofs.Steps.{parts-end}
 use native.Mathlib.Omega.{arith}
+use Rattle.lists.specs.Loops.{filled}
+use mathlib.Core.Path.{refl}
 use Rattle.sheet_plan.proofs.columns_of.Goals as goal
+
+pub loop-part-init : goal.loop-part-init
+unfolding filled
+loop-part-init c = (omega arith, refl)
 
 pub columns_in-requires : goal.columns_in-requires
 columns_in-requires c =

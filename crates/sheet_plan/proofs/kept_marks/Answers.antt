@@ -1,13 +1,18 @@
 -- `kept_marks` meets its contract. The loop's invariant: the places before t are marked.
 -- Assumes nothing.
-use mathlib.Core.Path.{ap, ◌∙◌}
+use mathlib.Core.Path.{ap, ◌∙◌, refl}
 use Rattle.lists.specs.Totals.{one}
 use Rattle.lists.proofs.Loops.{filled_more}
 use Rattle.derive.specs.Derived.{kept_no}
 use Rattle.sheet_plan.specs.Plans.{kept_at, kept_of}
 use Rattle.sheet_plan.proofs.Steps.{tables_end}
 use native.Mathlib.Omega.{arith}
+use Rattle.lists.specs.Loops.{filled}
 use Rattle.sheet_plan.proofs.kept_marks.Goals as goal
+
+pub loop-t-init : goal.loop-t-init
+unfolding filled
+loop-t-init c = (omega arith, refl)
 
 pub loop-t-preserved : goal.loop-t-preserved
 unfolding kept_at kept_no

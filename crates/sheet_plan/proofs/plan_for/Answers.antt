@@ -4,7 +4,6 @@ use mathlib.Core.Path.{refl}
 use native.Mathlib.Omega.{arith}
 use Rattle.sheet_plan.proofs.Shown.{shows-past}
 use Rattle.sheet_plan.proofs.Steps.{plan-made}
-use borrow.Author.Rules.{rules}
 use Rattle.sheet_plan.proofs.plan_for.Goals as goal
 
 pub lay_rows-requires : goal.lay_rows-requires

@@ -5,7 +5,13 @@ use Rattle.sheet_plan.specs.Plans.{rooms_of}
 use Rattle.sheet_plan.proofs.Sizes.{room-read}
 use Rattle.sheet_plan.proofs.Steps.{parts-end}
 use native.Mathlib.Omega.{arith}
+use Rattle.lists.specs.Loops.{filled}
+use mathlib.Core.Path.{refl}
 use Rattle.sheet_plan.proofs.rooms_of.Goals as goal
+
+pub loop-part-init : goal.loop-part-init
+unfolding filled
+loop-part-init c = (omega arith, refl)
 
 pub loop-part-preserved : goal.loop-part-preserved
 loop-part-preserved c = (omega arith, filled_more _ _ _ _ _ c.loop-part.invariant.1 (room-read _ _ _ c.room_no.ensures))

@@ -1,7 +1,6 @@
 -- `shows_marks` meets its contract: the three kinds of columns are those that side tables show.
 -- Assumes nothing.
 use Rattle.sheet_plan.proofs.Marking.{shows-made}
-use borrow.Author.Rules.{rules}
 use Rattle.sheet_plan.proofs.shows_marks.Goals as goal
 
 pub returns : goal.returns

@@ -22,11 +22,10 @@ overflow_add-at c =
     omega (arith, c.size_of-at.ensures.1, c.loop-part.invariant.1.1)
 
 pub loop-part-preserved : goal.loop-part-preserved
-loop-part-preserved c =
-    (
-      omega arith,
-      (filled_more _ _ _ _ _ c.loop-part.invariant.1.0 c.loop-part.invariant.1.1, start-more _ _ _ _ c.loop-part.invariant.1.1 c.size_of-at.ensures.0),
-    )
+loop-part-preserved c = (
+  omega arith,
+  (filled_more _ _ _ _ _ c.loop-part.invariant.1.0 c.loop-part.invariant.1.1, start-more _ _ _ _ c.loop-part.invariant.1.1 c.size_of-at.ensures.0),
+)
 
 pub returns : goal.returns
 returns c = starts-filled _ _ _ _ _ (omega arith) (omega arith) (omega arith) c.loop-part.invariant.1.0 c.loop-part.invariant.1.1

@@ -14,36 +14,34 @@ unfolding counted
 loop-k-init c = (omega arith, (omega arith, (refl, (row-begins (lists_to _) _ _ c.requires.lists_value, row-begins (places_to _) _ _ c.requires.places_value))))
 
 pub loop-k-preserved-then-marks-t-eq1 : goal.loop-k-preserved-then-marks-t-eq1
-loop-k-preserved-then-marks-t-eq1 c =
+loop-k-preserved-then-marks-t-eq1 c = (
+  omega arith,
+  (
+    omega arith,
     (
-      omega arith,
+      counted-hit _ _ _ c.loop-k.invariant.1.1.0 (marked-yes _ _ _ c.if-marks-t-eq1.true),
       (
-        omega arith,
-        (
-          counted-hit _ _ _ c.loop-k.invariant.1.1.0 (marked-yes _ _ _ c.if-marks-t-eq1.true),
-          (
-            lists-hit _ _ _ _ c.loop-k-test.true c.loop-k.invariant.1.1.0 _ c.if-marks-t-eq1.true c.loop-k.invariant.1.1.1.0,
-            places-more _ _ _ _ c.loop-k-test.true c.loop-k.invariant.1.1.0 _ c.loop-k.invariant.1.1.1.1,
-          ),
-        ),
+        lists-hit _ _ _ _ c.loop-k-test.true c.loop-k.invariant.1.1.0 _ c.if-marks-t-eq1.true c.loop-k.invariant.1.1.1.0,
+        places-more _ _ _ _ c.loop-k-test.true c.loop-k.invariant.1.1.0 _ c.loop-k.invariant.1.1.1.1,
       ),
-    )
+    ),
+  ),
+)
 
 pub loop-k-preserved : goal.loop-k-preserved
-loop-k-preserved c =
+loop-k-preserved c = (
+  omega arith,
+  (
+    omega arith,
     (
-      omega arith,
+      counted-miss _ _ _ c.loop-k.invariant.1.1.0 (marked-no _ _ _ c.if-marks-t-eq1.false),
       (
-        omega arith,
-        (
-          counted-miss _ _ _ c.loop-k.invariant.1.1.0 (marked-no _ _ _ c.if-marks-t-eq1.false),
-          (
-            lists-miss _ _ _ _ c.loop-k-test.true c.loop-k.invariant.1.1.0 _ c.if-marks-t-eq1.false c.loop-k.invariant.1.1.1.0,
-            places-more _ _ _ _ c.loop-k-test.true c.loop-k.invariant.1.1.0 _ c.loop-k.invariant.1.1.1.1,
-          ),
-        ),
+        lists-miss _ _ _ _ c.loop-k-test.true c.loop-k.invariant.1.1.0 _ c.if-marks-t-eq1.false c.loop-k.invariant.1.1.1.0,
+        places-more _ _ _ _ c.loop-k-test.true c.loop-k.invariant.1.1.0 _ c.loop-k.invariant.1.1.1.1,
       ),
-    )
+    ),
+  ),
+)
 
 pub returns : goal.returns
 returns c =
