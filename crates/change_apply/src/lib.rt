@@ -1,5 +1,6 @@
 // A change below its tests, on a sound store: what it does to it and what it answers. The store is sound again after it.
 #![tactic(auto)]
+
 ghost use Rattle.std.specs.Prelude.{◌≡◌};
 ghost use Rattle.meaning.specs.Base.{change_of};
 ghost use Rattle.sheet.specs.declared.Verdict.TheVariants.{Good};

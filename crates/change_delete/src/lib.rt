@@ -1,5 +1,6 @@
 // A delete below its tests 1 to 7, on a sound store: contradiction, and then the list's rows and the side row leave.
 #![tactic(auto)]
+
 ghost use Rattle.walk.specs.Grounds.{Lent};
 ghost use Rattle.change_laws.specs.Ready.{Ready};
 ghost use Rattle.change_delete.specs.Deletes.{Deletes};

@@ -1,5 +1,6 @@
 // The fill call: the store of a sheet written anew from its base tables, which are tested first.
 #![tactic(auto)]
+
 ghost use Rattle.std.specs.Prelude.{◌≡◌, true, length, replicate};
 ghost use Rattle.meaning.specs.Sheet.{sheet_of};
 ghost use Rattle.meaning.specs.Fill as Meant;

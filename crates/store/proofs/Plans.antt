@@ -11,7 +11,7 @@ use lib.ListN.{length, get_or}
 use Rattle.lists.specs.Lists.{Words}
 use Rattle.lists.proofs.Truth.{decided, cond-true, cond-false}
 use Rattle.meaning.specs.Sheet.{Sheet}
-use Rattle.meaning.specs.Plan.{kept, columns, store_length}
+use Rattle.meaning.specs.Plan.{kept, store_length}
 use Rattle.laws.proofs.Columns.{columns-side, shown-first}
 use Rattle.sheet_plan.specs.declared.Plan.{Plan}
 use Rattle.places.proofs.Parts.{start-after}

@@ -10,7 +10,7 @@ use Rattle.lists.specs.Lists.{Words}
 use Rattle.lists.specs.Parts.{part}
 use Rattle.lists.proofs.Truth.{is_t}
 use Rattle.meaning.specs.Sheet.{Sheet, sheet_of, sheet_refusal}
-use Rattle.meaning.specs.Plan.{columns, start, store_length}
+use Rattle.meaning.specs.Plan.{store_length}
 use Rattle.meaning.specs.Store.{sound, stretch_of, model_of}
 use Rattle.sheet.specs.declared.Verdict.TheVariants.{Good, Refused}
 use Rattle.sheet.specs.Verdicts.{verdict_number}

@@ -59,7 +59,8 @@ module _ (sheet store : Words) (part : ℕ) where
     unfolding show_refusal
     shows-no-part e l = refusal 4 (rw (good, eq-eqb _ _ e, lt-leb _ _ l))
 
-    pub shows-unsound : length store ≡ store_length (sheet_of sheet) → part ≤ (sheet_of sheet).n → sound (sheet_of sheet) store ≡ false → Gives sheet store part [] 7
+    pub shows-unsound : length store ≡ store_length (sheet_of sheet) → part ≤ (sheet_of sheet).n → sound (sheet_of sheet) store ≡ false
+        → Gives sheet store part [] 7
     unfolding show_refusal
     shows-unsound e l h = refusal 6 (rw (good, eq-eqb _ _ e, le-leb _ _ l, h))
 

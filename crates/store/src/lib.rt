@@ -1,5 +1,6 @@
 // The store of a good sheet: sound or not, its parts shown and written, and what a call that may write it answers.
 #![tactic(auto)]
+
 ghost use Rattle.std.specs.Prelude.{◌≡◌, true, cond, ◌+◌, ◌<◌, ◌≤◌, T, eqb, length, set, take};
 ghost use Rattle.lists.specs.Totals.{one};
 ghost use Rattle.rows.specs.Rows.{rising, put_row, take_row};

@@ -20,7 +20,13 @@ delete-requires c =
 
 pub update-requires : goal.update-requires
 update-requires c =
-    (c.requires.ready, updates _ _ _ _ _ c.requires.value c.requires.ready.planned.good c.in-3.is)
+    let both = updates _ _ _ _ _ c.requires.value c.requires.ready.planned.good c.in-3.is in
+    record {
+      ready = c.requires.ready;
+      lent = both.0;
+      lent_2 = both.1.0;
+      tied = both.1.1;
+    }
 
 pub returns-in-1 : goal.returns-in-1
 returns-in-1 c =

@@ -2,7 +2,8 @@
 -- Assumes nothing.
 use Rattle.list_part.proofs.Lists.{list-kept}
 use Prim.Native.Nat.{ℕ}
-use mathlib.Core.Path.{sym}
+use mathlib.Core.Path.{sym, ap}
+use mathlib.Core.Bool.{not}
 use lib.ListN.{length-replicate}
 use lib.Seq.{length-take-le}
 use Rattle.change_laws.proofs.Halves.{ready-good, ready-ground, ready-list, ready-table, ready-tables, half-modelled}
@@ -29,11 +30,12 @@ old_row-requires c =
 
 pub returns-then-not-old_row : goal.returns-then-not-old_row
 returns-then-not-old_row c =
-    deletes-contradicts-side c.requires.ready c.requires.lent _ c.is_qualified-qualified.ensures _ c.old_row.ensures c.if-not-old_row.true
+    deletes-contradicts-side c.requires.ready c.requires.lent _ c.is_qualified-qualified.ensures _ c.old_row.ensures (ap not c.if-not-old_row.true)
 
 pub returns-then-not-qualified : goal.returns-then-not-qualified
 returns-then-not-qualified c =
-    deletes-none c.requires.ready c.requires.lent _ c.is_qualified-qualified.ensures _ c.old_row.ensures c.if-not-old_row.false c.if-not-qualified.true
+    deletes-none c.requires.ready c.requires.lent _ c.is_qualified-qualified.ensures _ c.old_row.ensures
+    (ap not c.if-not-old_row.false) (ap not c.if-not-qualified.true)
 
 pub part_of-list-requires : goal.part_of-list-requires
 part_of-list-requires c =
@@ -55,19 +57,24 @@ mark_ways-a-requires c =
 
 pub returns-in_default : goal.returns-in_default
 returns-in_default c =
-    deletes-contradicts-list c.requires.ready c.requires.lent _ c.is_qualified-qualified.ensures _ c.old_row.ensures c.if-not-old_row.false
-    c.if-not-qualified.false _ _ c.mark_ways-a.ensures c.in_default.is
+    deletes-contradicts-list c.requires.ready c.requires.lent _ c.is_qualified-qualified.ensures _ c.old_row.ensures (ap not c.if-not-old_row.false)
+    (ap not c.if-not-qualified.false) _ _ c.mark_ways-a.ensures c.in_default.is
 
 pub slice_bounds-marked-end : goal.slice_bounds-marked-end
 slice_bounds-marked-end c =
     omega (
       arith,
       taken-few c.requires.ready c.requires.lent _ (ready-list c.requires.ready _ c.part_of-list.ensures) _ _ c.mark_ways-a.ensures _ c.in-All.is,
-      c.marked-2-1.given,
+      c.mark_ways-a.auto.marked,
     )
 
 pub slice_bounds-take_marked-end : goal.slice_bounds-take_marked-end
-slice_bounds-take_marked-end c = sym (length-take-le _ _ (array-share-prefix-marked c))
+slice_bounds-take_marked-end c =
+    sym (length-take-le _ _ (omega (
+      arith,
+      taken-few c.requires.ready c.requires.lent _ (ready-list c.requires.ready _ c.part_of-list.ensures) _ _ c.mark_ways-a.ensures _ c.in-All.is,
+      c.mark_ways-a.auto.marked,
+    )))
 
 pub take_marked-requires : goal.take_marked-requires
 take_marked-requires c =
@@ -89,6 +96,6 @@ take_side-requires c =
 pub returns : goal.returns
 returns c =
     let lies = ready-list c.requires.ready _ c.part_of-list.ensures in
-    deletes-done c.requires.ready c.requires.lent _ c.is_qualified-qualified.ensures _ c.old_row.ensures c.if-not-old_row.left c.if-not-qualified.left _ _
-    c.mark_ways-a.ensures _ lies _ c.in-All.is _
+    deletes-done c.requires.ready c.requires.lent _ c.is_qualified-qualified.ensures _ c.old_row.ensures
+    (ap not c.if-not-old_row.false) (ap not c.if-not-qualified.false) _ _ c.mark_ways-a.ensures _ lies _ c.in-All.is _
     c.take_marked.ensures _ c.take_side.ensures

@@ -1,7 +1,6 @@
 -- `fill` meets its contract.
 -- Assumes nothing.
 use mathlib.Core.Path.{sym, ◌∙◌}
-use borrow.Author.Tests.{not-true, not-false}
 use Rattle.fill.proofs.Outcomes.{sheet-refused, good, stored, short-refused, run-refused}
 use Rattle.fill.proofs.fill.Goals as goal
 
@@ -17,13 +16,13 @@ run_ok-requires c = good _ _ c.check-checked.ensures c.in-Good.is
 pub returns-then-not-run_ok : goal.returns-then-not-run_ok
 returns-then-not-run_ok c =
     run-refused (stored _ _ c.check-checked.ensures c.in-Good.is _ c.if-store-plan.false) _
-    (sym c.run_ok.ensures ∙ not-true _ c.if-not-run_ok.true)
+    (sym c.run_ok.ensures ∙ c.if-not-run_ok.true)
 
 pub fill_run-requires : goal.fill_run-requires
 fill_run-requires c =
     record {
       stored = stored _ _ c.check-checked.ensures c.in-Good.is _ c.if-store-plan.false;
-      run_value = sym c.run_ok.ensures ∙ not-false _ c.if-not-run_ok.false;
+      run_value = sym c.run_ok.ensures ∙ c.if-not-run_ok.false;
     }
 
 pub returns : goal.returns

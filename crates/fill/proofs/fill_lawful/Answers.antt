@@ -1,7 +1,6 @@
 -- `fill_lawful` meets its contract.
 -- Assumes nothing.
 use mathlib.Core.Path.{sym, ◌∙◌}
-use borrow.Author.Tests.{not-true, not-false}
 use Rattle.fill.proofs.Lawful.{based, rooted, sides-refused, list-refused, blank, filled-says, cleared}
 use native.Mathlib.Omega.{arith}
 use Rattle.fill.proofs.fill_lawful.Goals as goal
@@ -15,13 +14,13 @@ sides_fit-requires c =
 
 pub returns-then-not-sides_fit : goal.returns-then-not-sides_fit
 returns-then-not-sides_fit c =
-    sides-refused c.requires.stored c.requires.tested (sym c.sides_fit.ensures ∙ not-true _ c.if-not-sides_fit.true)
+    sides-refused c.requires.stored c.requires.tested (sym c.sides_fit.ensures ∙ c.if-not-sides_fit.true)
 
 pub part_of-list-requires : goal.part_of-list-requires
 part_of-list-requires c = record {
-      number_le_tables = omega arith;
-      tables_le_most_tables = c.requires.stored.planned.planned.tables-few;
-    }
+  number_le_tables = omega arith;
+  tables_le_most_tables = c.requires.stored.planned.planned.tables-few;
+}
 
 pub count_list-added-requires : goal.count_list-added-requires
 count_list-added-requires c =
@@ -29,7 +28,7 @@ count_list-added-requires c =
 
 pub returns-then-list-added : goal.returns-then-list-added
 returns-then-list-added c =
-    list-refused c.requires.stored c.requires.tested (sym c.sides_fit.ensures ∙ not-false _ c.if-not-sides_fit.false) _
+    list-refused c.requires.stored c.requires.tested (sym c.sides_fit.ensures ∙ c.if-not-sides_fit.false) _
     c.part_of-list.ensures _ c.count_list-added.ensures c.if-list-added.true
 
 pub write_sides-requires : goal.write_sides-requires
@@ -37,16 +36,16 @@ write_sides-requires c =
     record {
       based = based c.requires.stored c.requires.tested;
       good_plan = c.requires.stored.planned;
-      sheet_value = sym c.sides_fit.ensures ∙ not-false _ c.if-not-sides_fit.false;
+      sheet_value = sym c.sides_fit.ensures ∙ c.if-not-sides_fit.false;
       sides_stand = cleared c.requires.stored c.requires.tested _ c.clear.ensures;
     }
 
 pub write_list-requires : goal.write_list-requires
 write_list-requires c =
-    blank c.requires.stored c.requires.tested (sym c.sides_fit.ensures ∙ not-false _ c.if-not-sides_fit.false) _
+    blank c.requires.stored c.requires.tested (sym c.sides_fit.ensures ∙ c.if-not-sides_fit.false) _
     c.part_of-list.ensures _ c.count_list-added.ensures c.if-list-added.false _ c.write_sides.ensures
 
 pub returns : goal.returns
 returns c =
-    filled-says c.requires.stored c.requires.tested (sym c.sides_fit.ensures ∙ not-false _ c.if-not-sides_fit.false) _
+    filled-says c.requires.stored c.requires.tested (sym c.sides_fit.ensures ∙ c.if-not-sides_fit.false) _
     c.part_of-list.ensures _ c.count_list-added.ensures c.if-list-added.false _ c.write_list.ensures

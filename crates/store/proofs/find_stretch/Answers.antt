@@ -1,6 +1,5 @@
 -- `find_stretch` meets its contract: one law for each way through it.
 -- Assumes nothing.
-use borrow.Author.Tests.{not-true, not-false}
 use Rattle.store.proofs.Plans.{few}
 use Rattle.store.proofs.Checks.{check-of, check-some}
 use Rattle.store.proofs.Shows.{none-stand}
@@ -30,7 +29,7 @@ pub returns-then-not-is_sound : goal.returns-then-not-is_sound
 returns-then-not-is_sound c =
     none-stand c.no_stretch-then-not-is_sound.ensures (λ q. omega arith)
     (show-unsound _ _ _ _ c.check-checked.ensures c.in-Good.is c.if-store-plan.false c.if-n-number.false _
-    c.is_sound.ensures (not-true _ c.if-not-is_sound.true))
+    c.is_sound.ensures c.if-not-is_sound.true)
 
 pub part_of-p-requires : goal.part_of-p-requires
 part_of-p-requires c =
@@ -42,28 +41,28 @@ part_of-p-requires c =
 pub offset_bounds-store-slot : goal.offset_bounds-store-slot
 offset_bounds-store-slot c =
     let shown : ShownPart c.args.sheet.now c.args.store.now c.args.number c.part_of-p.result =
-        show-part _ _ _ _ c.check-checked.ensures c.in-Good.is c.if-store-plan.false c.if-n-number.false _
-        c.is_sound.ensures (not-false _ c.if-not-is_sound.false) _ c.part_of-p.ensures in
+    show-part _ _ _ _ c.check-checked.ensures c.in-Good.is c.if-store-plan.false c.if-n-number.false _
+    c.is_sound.ensures c.if-not-is_sound.false _ c.part_of-p.ensures in
     omega (arith, (shown).kept.within.counted)
 
 pub bounds-store-slot : goal.bounds-store-slot
 bounds-store-slot c =
     let shown : ShownPart c.args.sheet.now c.args.store.now c.args.number c.part_of-p.result =
-        show-part _ _ _ _ c.check-checked.ensures c.in-Good.is c.if-store-plan.false c.if-n-number.false _
-        c.is_sound.ensures (not-false _ c.if-not-is_sound.false) _ c.part_of-p.ensures in
+    show-part _ _ _ _ c.check-checked.ensures c.in-Good.is c.if-store-plan.false c.if-n-number.false _
+    c.is_sound.ensures c.if-not-is_sound.false _ c.part_of-p.ensures in
     let k = (shown).kept.within in
     omega (arith, k.counted, k.behind, k.ends)
 
 pub overflow_mul-result : goal.overflow_mul-result
 overflow_mul-result c =
     let shown : ShownPart c.args.sheet.now c.args.store.now c.args.number c.part_of-p.result =
-        show-part _ _ _ _ c.check-checked.ensures c.in-Good.is c.if-store-plan.false c.if-n-number.false _
-        c.is_sound.ensures (not-false _ c.if-not-is_sound.false) _ c.part_of-p.ensures in
+    show-part _ _ _ _ c.check-checked.ensures c.in-Good.is c.if-store-plan.false c.if-n-number.false _
+    c.is_sound.ensures c.if-not-is_sound.false _ c.part_of-p.ensures in
     let k = (shown).kept in omega (arith, stretch-ends _ _ k, k.within.ends)
 
 pub returns : goal.returns
 returns c =
     let shown : ShownPart c.args.sheet.now c.args.store.now c.args.number c.part_of-p.result =
-        show-part _ _ _ _ c.check-checked.ensures c.in-Good.is c.if-store-plan.false c.if-n-number.false _
-        c.is_sound.ensures (not-false _ c.if-not-is_sound.false) _ c.part_of-p.ensures in
+    show-part _ _ _ _ c.check-checked.ensures c.in-Good.is c.if-store-plan.false c.if-n-number.false _
+    c.is_sound.ensures c.if-not-is_sound.false _ c.part_of-p.ensures in
     part-stands _ _ _ _ (shown)

@@ -1,6 +1,5 @@
 -- `store::is_sound` meets its contract, test by test.
 -- Assumes nothing.
-use borrow.Author.Tests.{not-true, not-false}
 use Rattle.store.proofs.Plans.{few, nine, list_at, within-store}
 use Rattle.store.proofs.Whole.{long-fails, absent-fails, sides-fails, list-decides}
 use mathlib.Core.Path.{sym, ◌∙◌}
@@ -16,10 +15,10 @@ pub absent_zero-requires : goal.absent_zero-requires
 absent_zero-requires c = omega (arith, nine _ c.requires)
 
 pub returns-then-not-absent_zero : goal.returns-then-not-absent_zero
-returns-then-not-absent_zero c = absent-fails _ _ (sym c.absent_zero.ensures ∙ not-true _ c.if-not-absent_zero.true)
+returns-then-not-absent_zero c = absent-fails _ _ (sym c.absent_zero.ensures ∙ c.if-not-absent_zero.true)
 
 pub returns-then-not-sides_sound : goal.returns-then-not-sides_sound
-returns-then-not-sides_sound c = sides-fails _ _ _ c.sides_sound.ensures (not-true _ c.if-not-sides_sound.true)
+returns-then-not-sides_sound c = sides-fails _ _ _ c.sides_sound.ensures c.if-not-sides_sound.true
 
 pub part_at-p-requires : goal.part_at-p-requires
 part_at-p-requires c = few _ c.requires
@@ -33,7 +32,7 @@ part_sound-requires c =
 
 pub returns : goal.returns
 returns c =
-    let absent = sym c.absent_zero.ensures ∙ not-false _ c.if-not-absent_zero.false in
-    let sides = not-false _ c.if-not-sides_sound.false in
+    let absent = sym c.absent_zero.ensures ∙ c.if-not-absent_zero.false in
+    let sides = c.if-not-sides_sound.false in
     let part = c.part_at-p.ensures ∙ list_at _ _ (le_refl _) in
     list-decides _ _ _ _ _ c.if-store-plan.false absent c.sides_sound.ensures sides part c.part_sound.ensures

@@ -8,9 +8,9 @@ use Rattle.store.proofs.part_sound.Goals as goal
 
 pub sound_side-requires : goal.sound_side-requires
 sound_side-requires c = record {
-      w_nonzero = c.requires.columns_nonzero c.if-keyed.true;
-      s_len = search rules;
-    }
+  w_nonzero = c.requires.columns_nonzero c.if-keyed.true;
+  s_len = search rules;
+}
 
 pub returns-then-keyed : goal.returns-then-keyed
 unfolding words_in part

@@ -8,9 +8,9 @@ returns-then-kept-eq0 c = rw (eq-eqb _ _ c.if-kept-eq0.true)
 
 pub part_sound-requires : goal.part_sound-requires
 part_sound-requires c = record {
-      within = c.requires.within;
-      columns_nonzero = λ keyed. c.requires.columns_nonzero c.if-kept-eq0.false;
-    }
+  within = c.requires.within;
+  columns_nonzero = λ keyed. c.requires.columns_nonzero c.if-kept-eq0.false;
+}
 
 pub returns : goal.returns
 returns c = rw (ne_eqb _ _ c.if-kept-eq0.false) c.part_sound.ensures
