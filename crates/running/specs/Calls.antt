@@ -1,5 +1,6 @@
 -- The calls of the code as they ran. All that is known of one is its function's own contract: `Learnt` is what antt reads from the `ensures`
--- of the source, and `Asked` what it reads from the `requires`. Each call is that of the crate's function or that of the exported one.
+-- of the source, and `Asked` what it reads from the `requires`. Each call is that of the crate's function or that of the face, which
+-- `oratjolet_c` exports to C under the same name and with the same clauses.
 -- Assumes nothing.
 use Rattle.std.specs.Prelude.{ℕ, ◌≡◌, ◌⊎◌, take, drop}
 use Rattle.std.proofs.Common.{inl, inr}
@@ -105,7 +106,7 @@ fill_ran (inr k) =
       outcome = record { number = k.result; taken = taken.now; added = added.now; words = exit.now };
     }
 
--- the exported one names a stretch of the store
+-- the face's names a stretch of the store
 abbrev pub show_ran : ShowCall → Ran ℕ Stretch
 show_ran (inl k) =
     let (sheet, (store, (part, _))) = k.args in
@@ -125,7 +126,7 @@ abbrev pub planned_sheet : PlanCall → Words
 planned_sheet (inl k) = k.args.0.now
 planned_sheet (inr k) = k.args.0.now
 
--- the exported one answers a number and 220 words
+-- the face's answers a number and 220 words
 abbrev pub Answers : PlanCall → PlanAnswer → Type 0
 Answers (inl k) a = k.result ≡ a
 Answers (inr k) a = (k.result ≡ a.number) × (k.exit.1.0.now ≡ plan_words a)

@@ -12,7 +12,7 @@ use Rattle.text.specs.Writing.{PutAt}
 use Rattle.text.specs.declared.reading.Reader.{Reader}
 use Rattle.text.specs.contracts.reading.Reader.new as new
 use Rattle.text.proofs.reading.Reader.new.Reads as new-reads
-use Rattle.text.specs.contracts.reading.Reader.take_chunk as take_Chunk
+use Rattle.text.specs.contracts.reading.Reader.take_chunk as take-chunk
 use Rattle.text.proofs.reading.Reader.take_chunk.Reads as take-chunk-reads
 use Rattle.text.specs.contracts.reply as reply
 use Rattle.text.proofs.reply.Reads as reply-reads
@@ -22,13 +22,13 @@ abbrev pub NewCall : Type 0
 NewCall = Call new.ended new-reads.Learnt
 
 abbrev pub ChunkCall : Type 0
-ChunkCall = Call take_Chunk.ended take-chunk-reads.Learnt
+ChunkCall = Call take-chunk.ended take-chunk-reads.Learnt
 
 abbrev pub ReplyCall : Type 0
 ReplyCall = Call reply.ended reply-reads.Learnt
 
 abbrev pub TextsTakeAny : Type 0
-TextsTakeAny = TakesAny new.ended new-reads.Asked × TakesAny take_Chunk.ended take-chunk-reads.Asked × TakesAny reply.ended reply-reads.Asked
+TextsTakeAny = TakesAny new.ended new-reads.Asked × TakesAny take-chunk.ended take-chunk-reads.Asked × TakesAny reply.ended reply-reads.Asked
 
 -- each chunk went to the reader that the call before it gave, and the reply to the last
 abbrev pub Read : Reader → List ChunkCall → ReplyCall → Type 0
