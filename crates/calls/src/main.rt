@@ -3,6 +3,7 @@
 
 ghost use Rattle.std.specs.Prelude.{◌+◌, ◌*◌, ◌≤◌, length};
 
+use reading::read_full;
 use std::io::Read;
 
 // How a call went: answered, or no call is left, or what is wrong with the input.
@@ -65,21 +66,6 @@ fn least(a: usize, b: usize) -> usize
     ensures { (result ≤ a) × (result ≤ b) }
 {
     if a < b { a } else { b }
-}
-
-// Reads until the bytes are full, the input ends or a read fails, and returns how many bytes it has put in front.
-fn read_full(input: &mut impl Read, bytes: &mut [u8]) -> usize
-    ensures { result ≤ length bytes.new }
-{
-    let mut done = 0;
-    while done < bytes.len() {
-        match input.read(&mut bytes[done..]) {
-            Ok(0) => break,
-            Ok(n) => done += n,
-            Err(_) => break,
-        }
-    }
-    done
 }
 
 // Reads as many words as there is place for. False if the input ends before.

@@ -17,7 +17,7 @@ mod largest;
 
 ghost use Rattle.std.specs.Prelude.{◌<◌, ◌≤◌, length};
 
-use std::io::Read;
+use reading::read_full;
 use store::Answer;
 use text::Reader;
 
@@ -415,21 +415,6 @@ fn run(rt: &impl Print, text: &[u8], sheet: &mut [u64], store: &mut [u64]) {
         size = comment_or_line(rt, &text[at..end], sheet, store, size);
         at = end + 1;
     }
-}
-
-// Reads until the text is full, the input ends or a read fails, and returns how many bytes it has put in front.
-fn read_full(input: &mut impl Read, text: &mut [u8]) -> usize
-    ensures { result ≤ length text.new }
-{
-    let mut done = 0;
-    while done < text.len() {
-        match input.read(&mut text[done..]) {
-            Ok(0) => break,
-            Ok(n) => done += n,
-            Err(_) => break,
-        }
-    }
-    done
 }
 
 fn main(rt: HostRuntime) {

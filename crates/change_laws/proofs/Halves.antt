@@ -66,7 +66,8 @@ module _ {ws store : Words} {plan : Plan} (rd : Ready ws store plan) where
           with-other (model_of s store) s.n (model-many s store) rows s.n t (omega arith) (omega arith) ∙ model-part s store t (omega arith)
 
       pub half-side : rows_at (sheet_of ws) mid t ≡ rows_at (sheet_of ws) store t
-      half-side = stands-rows (sheet_of ws) ready-good mid (with_part (model_of (sheet_of ws) store) (sheet_of ws).n rows) half-stands t (omega arith) ∙ half-part
+      half-side = stands-rows (sheet_of ws) ready-good mid (with_part (model_of (sheet_of ws) store) (sheet_of ws).n rows) half-stands t (omega arith)
+          ∙ half-part
 
       -- and then table t's
       both_words : (f : Rows → Rows) (exit : Words) → Sided (sheet_of ws) t f mid exit → (taken added : ℕ)

@@ -58,7 +58,8 @@ module _ (sheet ws : Words) (c : Change) where
               let b = fits (sheet_of sheet) (model_after (sheet_of sheet) ws c) in
               numbered (unless a contradiction (unless b no_room 0)) (rw (ok, eq-eqb (length ws) (store_length (sheet_of sheet)) long, good, stay, h)) ∙ go a b
             where
-              go : (a b : Bool) → called (unless a contradiction (unless b no_room 0)) ≡ cond a (cond b (accepted (sheet_of sheet) ws c) (refused no_room ws)) (refused contradiction ws)
+              go : (a b : Bool) → called (unless a contradiction (unless b no_room 0))
+                  ≡ cond a (cond b (accepted (sheet_of sheet) ws c) (refused no_room ws)) (refused contradiction ws)
               go true true = refl
               go true false = refl
               go false b = refl

@@ -44,16 +44,19 @@ module _ (s : Sheet) (g : Good s) (ws : Words) (ok : T (sound s ws)) (t : ℕ) (
       -- the store agrees exactly if the walks' rows stand on the list as often
       agree : agrees s (model_of s ws) (change_of 2 t r o) ≡ has_rows (walk_rows s (model_of s ws) t r) (rows_at s ws s.n)
       unfolding agrees effect delete_effect model_of
-      agree = rw (old, q) (has_same (rows_through s (model_of s ws) t r) (walk_rows s (model_of s ws) t r) (rows_at s ws s.n) (walk_rows_lem s g ws ok t l r (is_t q)))
+      agree = rw (old, q) (has_same (rows_through s (model_of s ws) t r) (walk_rows s (model_of s ws) t r) (rows_at s ws s.n)
+          (walk_rows_lem s g ws ok t l r (is_t q)))
 
       -- 8: they aren't there as often
-      pub delete-contradicts-list : has_rows (walk_rows s (model_of s ws) t r) (rows_at s ws s.n) ≡ false → applied s ws (change_of 2 t r o) ≡ refused contradiction ws
+      pub delete-contradicts-list : has_rows (walk_rows s (model_of s ws) t r) (rows_at s ws s.n) ≡ false
+          → applied s ws (change_of 2 t r o) ≡ refused contradiction ws
       delete-contradicts-list e = applied-contradicts s g ws ok (change_of 2 t r o) l (agree ∙ e)
 
       -- its shown columns leave the side table, and the rows of its ways the list
       pub delete-done : (numbers : Words) → Marked (walk_rows s (model_of s ws) t r) (rows_at s ws s.n) numbers
           → applied s ws (change_of 2 t r o)
-          ≡ done s ws t (length (walk_rows s (model_of s ws) t r)) 0 (take_rows (side_row s t r) (rows_at s ws t)) (spared (is_marked numbers) (rows_at s ws s.n))
+          ≡ done s ws t (length (walk_rows s (model_of s ws) t r)) 0 (take_rows (side_row s t r) (rows_at s ws t))
+              (spared (is_marked numbers) (rows_at s ws s.n))
       unfolding delete_effect put_rows model_of
       delete-done numbers h =
           let same = walk_rows_lem s g ws ok t l r (is_t q) in

@@ -49,11 +49,13 @@ module _ (s : Sheet) (g : Good s) (ws : Words) (ok : T (sound s ws)) where
           ∙ ap (map (widened s (root s))) none
 
   -- the list rows of the ways through a qualified row are those of the walks
-  pub walk_rows_lem : (t : ℕ) → t < s.n → (r : Row) → T (qualifies s (model_of s ws) t r) → Same (rows_through s (model_of s ws) t r) (walk_rows s (model_of s ws) t r)
+  pub walk_rows_lem : (t : ℕ) → t < s.n → (r : Row) → T (qualifies s (model_of s ws) t r)
+      → Same (rows_through s (model_of s ws) t r) (walk_rows s (model_of s ws) t r)
   unfolding walk_rows
   walk_rows_lem t l r q =
       ⊎_elim (λ can. rows-through s g (model_of s ws) t l r (sound-once s ws ok) q can)
-      (λ no f. ap (total f) (no-through s (model_of s ws) t r (λ h. no (and-snd (qualifies s (model_of s ws) t r) (can_take s t) h)) ∙ sym (walks-none t l r no)))
+      (λ no f. ap (total f) (no-through s (model_of s ws) t r (λ h. no (and-snd (qualifies s (model_of s ws) t r) (can_take s t) h))
+          ∙ sym (walks-none t l r no)))
       (decided (can_take s t))
 
 -- the side row of a kept table

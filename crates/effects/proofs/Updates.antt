@@ -67,7 +67,8 @@ module _ (s : Sheet) (g : Good s) (ws : Words) (ok : T (sound s ws)) (t : ℕ) (
       agree = rw (old, show, q) (has_same (update_effect s (model_of s ws) t r r').list_out (replaced_rows s (model_of s ws) t r) (rows_at s ws s.n) out)
 
       -- 8: they aren't there as often
-      pub update-contradicts-list : has_rows (replaced_rows s (model_of s ws) t r) (rows_at s ws s.n) ≡ false → applied s ws (change_of 3 t r r') ≡ refused contradiction ws
+      pub update-contradicts-list : has_rows (replaced_rows s (model_of s ws) t r) (rows_at s ws s.n) ≡ false
+          → applied s ws (change_of 3 t r r') ≡ refused contradiction ws
       update-contradicts-list e = applied-contradicts s g ws ok (change_of 3 t r r') l (agree ∙ e)
 
       side-many : length (side_after (model_of s ws) t (update_effect s (model_of s ws) t r r')) ≡ length (rows_of (model_of s ws).sides t)

@@ -45,11 +45,13 @@ module _ (sheet store run : Words) where
       fill-bad-base b = rw (good, eq-eqb (length store) (store_length (sheet_of sheet)) long, b)
 
       module _ (lawful : good_base (sheet_of sheet) run ≡ true) where
-        pub fill-no-room : fits (sheet_of sheet) (meaning (sheet_of sheet) (base_of (sheet_of sheet) run)) ≡ false → fill sheet store run ≡ refused no_room store
+        pub fill-no-room : fits (sheet_of sheet) (meaning (sheet_of sheet) (base_of (sheet_of sheet) run)) ≡ false
+            → fill sheet store run ≡ refused no_room store
         unfolding fill fill_refusal
         fill-no-room f = rw (good, eq-eqb (length store) (store_length (sheet_of sheet)) long, lawful, f)
 
-        pub fill_done : fits (sheet_of sheet) (meaning (sheet_of sheet) (base_of (sheet_of sheet) run)) ≡ true → fill sheet store run ≡ filled (sheet_of sheet) run
+        pub fill_done : fits (sheet_of sheet) (meaning (sheet_of sheet) (base_of (sheet_of sheet) run)) ≡ true
+            → fill sheet store run ≡ filled (sheet_of sheet) run
         unfolding fill fill_refusal
         fill_done f = rw (good, eq-eqb (length store) (store_length (sheet_of sheet)) long, lawful, f)
 

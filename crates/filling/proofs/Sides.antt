@@ -124,7 +124,8 @@ module _ (s : Sheet) (base : Tables) (t : ℕ) (order : List ℕ) where
 pub select-count : (p : Row → Bool) (base : Tables) (t : ℕ) → length (select p (rows_of base t)) ≡ counted (λ i. p (row_no base t i)) (length (rows_of base t))
 unfolding row_no
 select-count p base t =
-    ap (λ (rows : Rows). length (select p rows)) (sym (numbered-rows (rows_of base t))) ∙ length_up p (λ i. get_or (rows_of base t) i []) (length (rows_of base t))
+    ap (λ (rows : Rows). length (select p rows)) (sym (numbered-rows (rows_of base t)))
+        ∙ length_up p (λ i. get_or (rows_of base t) i []) (length (rows_of base t))
   where
     numbered-rows : (rows : Rows) → map (λ i. get_or rows i []) (up_to (length rows)) ≡ rows
     numbered-rows rows = unfold numbered in numbered-all rows

@@ -20,7 +20,8 @@ use Rattle.meaning.specs.Plan.{kept, shown, columns}
 use Rattle.meaning.specs.Base.{rows_of, Change, change_of, by_kind, good_change, has_width}
 use Rattle.meaning.specs.Meaning.{list_row, Model}
 use Rattle.meaning.specs.Store.{part_rows, store_of, model_of, sound, rows_at, fits}
-use Rattle.meaning.specs.Change.{qualifies, can_take, ways_through, rows_through, shows_key, keys_reached, rows_found, with_columns, Effect, no_effect, side_row}
+use Rattle.meaning.specs.Change.{qualifies, can_take, ways_through, rows_through, shows_key, keys_reached, rows_found, with_columns}
+use Rattle.meaning.specs.Change.{Effect, no_effect, side_row}
 use Rattle.meaning.specs.Change.{insert_effect, delete_effect, update_effect, effect, after, new_key, old_row, found_show, agrees, model_after}
 use Rattle.laws.specs.Sheets.{Good}
 use Rattle.laws.proofs.Lists.{by-set, facts}
@@ -49,7 +50,8 @@ by-kind s P insert delete update c h = go (eqb c.kind 1) refl (eqb c.kind 2) ref
 
     by : ℕ → Bool
     by k =
-        by_kind k (eqb (length r) 0 && has_width s t r') (has_width s t r && eqb (length r') 0) (has_width s t r && has_width s t r' && eqb (key r) (key r')) false
+        by_kind k (eqb (length r) 0 && has_width s t r') (has_width s t r && eqb (length r') 0)
+            (has_width s t r && has_width s t r' && eqb (key r) (key r')) false
 
     inside : t < s.n
     inside = ltb→lt t s.n (and-fst (ltb t s.n) (by c.kind) h)
@@ -227,7 +229,8 @@ module _ (s : Sheet) (g : Good s) (m : Model) (p : Proper s m) where
       (λ t r r' l e e' k h. by-qualified t l r (update_effect s m t r r') (λ q.
       let old = facts (old_row s m t r ∷ found_show s m t r ∷ has_rows (effect s m (change_of 3 t r r')).list_out m.list ∷ []) h in
       proper-after s m p t l (update_effect s m t r r') (side-row-wide s t r' l) (side-row-none s t r') (once-swap s g m p t l r r' k q old.0)
-      (by-can (can_take s t) (rows_through s m t r') (map (with_columns s.listed t r') (rows_found s m t r)) (through-wide s m t r') (found-wide s m p t r r'))))
+      (by-can (can_take s t) (rows_through s m t r') (map (with_columns s.listed t r') (rows_found s m t r)) (through-wide s m t r')
+          (found-wide s m p t r r'))))
     where
       by-can : (b : Bool) (xs ys : Rows) → Wide (columns s s.n) xs → Wide (columns s s.n) ys → Wide (columns s s.n) (cond b xs ys)
       by-can true xs ys h k = h

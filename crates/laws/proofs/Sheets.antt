@@ -10,7 +10,8 @@ use native.Mathlib.Omega.{arith}
 use lib.Dec.{T, ltb, leb, eqb, ltb→lt, leb→le}
 use lib.ListN.{length, drop, length-take, length-drop, length-map}
 use Rattle.lists.specs.Lists.{Words, between, Mem, all, any, select, none_twice}
-use Rattle.lists.proofs.Truth.{all-get, any-get, mem-select, select-mem, mem-get_or, mem-up_to, up_to-mem, eq→eqb, eqb→≡, false→F, or_cases, cond-true, cond-false}
+use Rattle.lists.proofs.Truth.{all-get, any-get, mem-select, select-mem, mem-get_or, mem-up_to, up_to-mem, eq→eqb, eqb→≡}
+use Rattle.lists.proofs.Truth.{false→F, or_cases, cond-true, cond-false}
 use Rattle.rows.specs.Rows.{cut}
 use Rattle.rows.proofs.Cut.{cut-length}
 use Rattle.meaning.specs.Sheet.{Edge, Condition, Listed, Sheet, edge_of, condition_of, listed_of, edges_at, conditions_at, listed_at, rooms_at, sheet_of}

@@ -4,7 +4,8 @@ use Rattle.std.specs.Prelude.{ℕ, ◌≡◌, Bool, List, [], ◌∷◌, ◌++�
 use Rattle.std.proofs.Common.{eqb→eq}
 use Rattle.lists.specs.Lists.{Words, flat, same_lists}
 use Rattle.lists.proofs.Truth.{same_lists→≡}
-use Rattle.rows.specs.Rows.{Row, Rows, same_row, cut, word_order, then_by, row_order, is_less, smaller, rising, put_row, put_rows, take_row, take_rows, has_rows}
+use Rattle.rows.specs.Rows.{Row, Rows, same_row, cut, word_order, then_by, row_order, is_less, smaller, rising}
+use Rattle.rows.specs.Rows.{put_row, put_rows, take_row, take_rows, has_rows}
 use Rattle.meaning.specs.Sheet.{sheet_of, good_counts, good_edge, good_condition, good_listed, good_words, good_tree, sheet_refusal}
 use Rattle.meaning.specs.Plan.{TablePlan, root, edge_into, others, dep, dep_plus, need, kept, is_shown, shown}
 use Rattle.meaning.specs.Plan.{columns, size, start, store_length, in_order, table_plan, good_plan, plan}

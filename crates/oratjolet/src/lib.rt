@@ -1,4 +1,5 @@
-// The face: the calls in one place, which oratjolet_c exports to C and Rust. A call's result is its number; what else it answers goes to words that the caller lends.
+// The face: the calls in one place, which oratjolet_c exports to C and Rust. A call's result is its number; what else it answers goes to words that the
+// caller lends.
 #![tactic(auto)]
 
 ghost use Rattle.std.specs.Prelude.{◌≡◌, ◌+◌, ◌*◌, ◌≤◌, ◌++◌, length};

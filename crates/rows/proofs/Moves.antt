@@ -8,7 +8,8 @@ use native.Mathlib.Numerals.{add-one}
 use native.Mathlib.Omega.{arith}
 use lib.ListN.{length, take, drop, set, replicate, length-append, length-take, length-drop, length-replicate, get_or-replicate, take-append-drop}
 use lib.ListN.{get_or-append}
-use lib.Seq.{take-suc, drop-cons, set_at, get_or-take, get_or-drop, length-take-le, paste-zero, paste-suc, drop-drop, get_or-append-add, take-append-le, take-take}
+use lib.Seq.{take-suc, drop-cons, set_at, get_or-take, get_or-drop, length-take-le, paste-zero, paste-suc}
+use lib.Seq.{drop-drop, get_or-append-add, take-append-le, take-take}
 use lib.Seq.{take_at, drop_at, take_all}
 use Rattle.lists.specs.Lists.{Words, at}
 use Rattle.rows.specs.Rows.{Row}

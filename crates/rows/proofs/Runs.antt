@@ -265,7 +265,8 @@ module _ (n : ℕ) (numbers : Words) (r : Numbers n numbers) (first x k : ℕ) (
       go i h e false q = omega (arith, g.over i (ltb-false i k q) h)
 
 -- it is marked then, as are the others that were
-put-marks : (k x : ℕ) (numbers : Words) (i : ℕ) → is_marked (put_number k x numbers) i ≡ (is_marked (take k numbers) i || (eqb i x || is_marked (drop k numbers) i))
+put-marks : (k x : ℕ) (numbers : Words) (i : ℕ) → is_marked (put_number k x numbers) i
+    ≡ (is_marked (take k numbers) i || (eqb i x || is_marked (drop k numbers) i))
 unfolding put_number is_marked
 put-marks k x numbers i = marked_append (take k numbers) (x ∷ drop k numbers) i
 

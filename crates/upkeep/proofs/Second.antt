@@ -36,7 +36,8 @@ derived sheet ok =
       side = side-table-is s g;
     }
 
-module _ (sheet store run : Words) (ok : sheet_refusal sheet ≡ 0) (long : length store ≡ store_length (sheet_of sheet)) (right : T (good_base (sheet_of sheet) run))
+module _ (sheet store run : Words) (ok : sheet_refusal sheet ≡ 0) (long : length store ≡ store_length (sheet_of sheet))
+    (right : T (good_base (sheet_of sheet) run))
     (fit : T (fits (sheet_of sheet) (meaning (sheet_of sheet) (base_of (sheet_of sheet) run)))) where
   abbrev s : Sheet
   s = sheet_of sheet

@@ -18,7 +18,8 @@ use Rattle.rows.specs.Rows.{Row, Rows, key, take_row, has_row, has_rows, has_key
 use Rattle.rows.proofs.Sorted.{same-take}
 use Rattle.meaning.specs.Sheet.{Edge, Sheet, width, goes_into, edges_into}
 use Rattle.meaning.specs.Plan.{is_promised}
-use Rattle.meaning.specs.Base.{Tables, rows_of, has_parents, Change, change_of, good_change, same_tied, tied_stay, refers, has_promised_child, lawful_change, changed}
+use Rattle.meaning.specs.Base.{Tables, rows_of, has_parents, Change, change_of, good_change, same_tied, tied_stay}
+use Rattle.meaning.specs.Base.{refers, has_promised_child, lawful_change, changed}
 use Rattle.meaning.specs.Meaning.{Model, meaning}
 use Rattle.meaning.specs.Change.{insert_effect, effect, after, new_key, old_row, found_show, agrees}
 use Rattle.meaning.specs.Demands.{ways_of}

@@ -1,6 +1,6 @@
--- `calls::read_full` ends: the measure is the number of bytes that are not read yet.
+-- `read_full` ends: the measure is the number of bytes that are not read yet.
 use Rattle.std.proofs.Common.{◌-◌, ◌≤◌, length}
-use Rattle.calls.proofs.read_full.Given as goal
+use Rattle.reading.proofs.read_full.Given as goal
 
 abbrev pub invariant-loop-done : goal.invariant-loop-done
 invariant-loop-done g l = l.done ≤ length l.bytes
