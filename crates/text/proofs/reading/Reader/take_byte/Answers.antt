@@ -1,7 +1,5 @@
 -- `Reader::take_byte` meets its contract, by what the byte is.
 -- Assumes nothing.
-use mathlib.Core.Path.{◌≡◌}
-use mathlib.Core.Logic.{◌⊎◌, ⊎_elim}
 use native.Mathlib.Omega.{arith}
 use Rattle.text.proofs.Bytes.{blank, no-blank, digit, below-digits, above-digits, byte-failed, byte-blank, byte-digit, byte-other}
 use Rattle.text.proofs.reading.Reader.take_byte.Goals as goal
@@ -15,13 +13,13 @@ returns-in-32 c = byte-blank _ _ _ c.if-self.false (blank _ c.in-32.is) c.take_b
 
 pub returns-in-48-to-57 : goal.returns-in-48-to-57
 returns-in-48-to-57 c =
-    let blankless : (c.args.b ≡ 10) ⊎ (c.args.b ≡ 32) → ⊥ = λ h. ⊎_elim (λ e. omega arith) (λ e. omega arith) h in
-    byte-digit _ _ _ c.if-self.false (no-blank _ blankless) (digit _ (omega arith) (omega arith)) c.take_digit.ensures
+    byte-digit _ _ _ c.if-self.false (no-blank _ (λ h. omega arith)) (digit _ (omega arith) (omega arith)) c.take_digit.ensures
 
 pub returns-in_default : goal.returns-in_default
 returns-in_default c =
-    let blankless : (c.args.b ≡ 10) ⊎ (c.args.b ≡ 32) → ⊥ = λ h. ⊎_elim (λ e. omega arith) (λ e. omega arith) h in
     elim c.in_default.branch [
-      | in_default-via-then-b-lt48 w ↦ byte-other _ _ _ c.if-self.false (no-blank _ blankless) (below-digits _ (omega arith)) c.broken.ensures
-      | in_default-via-else-b-lt48+else-b-lt58 w ↦ byte-other _ _ _ c.if-self.false (no-blank _ blankless) (above-digits _ (omega arith)) c.broken.ensures
+      | in_default-via-then-b-lt48 w ↦
+          byte-other _ _ _ c.if-self.false (no-blank _ (λ h. omega arith)) (below-digits _ (omega arith)) c.broken.ensures
+      | in_default-via-else-b-lt48+else-b-lt58 w ↦
+          byte-other _ _ _ c.if-self.false (no-blank _ (λ h. omega arith)) (above-digits _ (omega arith)) c.broken.ensures
     ]
