@@ -20,8 +20,10 @@ use Rattle.meaning.specs.Change.{qualifies, new_key, old_row}
 use Rattle.laws.specs.Sheets.{Good}
 use Rattle.laws.proofs.Models.{part-side}
 use Rattle.laws.proofs.Stores.{sound-get, model-many, model-side, sound-proper}
+use Rattle.sheet_plan.specs.declared.Plan.{Plan}
 use Rattle.places.proofs.Parts.{slot-table}
 use Rattle.places.proofs.Stands.{sound-stands}
+use Rattle.store.specs.Plans.{GoodPlan}
 use Rattle.side_table.specs.Sides.{found_side, Modelled, has_room}
 
 -- table t of a good sheet is asked about, in a sound store
@@ -29,6 +31,10 @@ pub record Asked (s : Sheet) (t : ℕ) (ws : Words) : Type 0 where
   pub good : Good s
   pub there : t < s.n
   pub ok : T (sound s ws)
+
+-- the sheet is good, for it has a plan
+pub asked-planned : {s : Sheet} {p : Plan} {t : ℕ} {ws : Words} → GoodPlan s p → t < s.n → T (sound s ws) → Asked s t ws
+asked-planned plan l ok = record { good = plan.good; there = l; ok = ok }
 
 module _ {s : Sheet} {t : ℕ} {ws : Words} (asked : Asked s t ws) where
   pub sound-modelled : Modelled s ws

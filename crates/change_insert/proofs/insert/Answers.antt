@@ -2,11 +2,9 @@
 -- Assumes nothing.
 use Rattle.change_laws.proofs.Halves.{ready-ground, ready-list, ready-table, half-modelled}
 use Rattle.change_insert.proofs.Inserting.{inserts-contradicts, inserts-none, inserts-no-room-side, inserts-no-room-list}
-use Rattle.change_insert.proofs.Inserting.{Insertable, insertable, half_room, inserts-done}
-use mathlib.Core.Path.{◌≡◌, ap}
+use Rattle.change_insert.proofs.Inserting.{insertable, half_room, inserts-done}
+use mathlib.Core.Path.{ap}
 use mathlib.Core.Bool.{not}
-use Prim.Native.Nat.{ℕ}
-use Rattle.change_added.specs.declared.Added.TheVariants.{All}
 use Rattle.change_insert.proofs.insert.Goals as goal
 
 pub new_key-requires : goal.new_key-requires
@@ -57,33 +55,25 @@ add_ways-added-requires c =
 
 pub put_side-requires : goal.put_side-requires
 put_side-requires c =
-    let admitted : (k : ℕ) → c.add_ways-added.result ≡ All k
-    → Insertable c.args.sheet.now c.args.store.now c.args.plan c.args.table c.args.row.now
-    c.part_of-list.result k =
-    λ k told. let gained = rw told at c.add_ways-added.ensures in
-    insertable c.requires.ready c.requires.lent _ c.new_key.ensures (ap not c.if-not-new_key.false) _ c.is_qualified.ensures
-    (ap not c.if-not-is_qualified.false) _ c.has_room.ensures (ap not c.if-not-has_room.false) _ (ready-list c.requires.ready _ c.part_of-list.ensures) k
+    let gained = rw c.in-All.is at c.add_ways-added.ensures in
+    let p = insertable c.requires.ready c.requires.lent _ c.new_key.ensures (ap not c.if-not-new_key.false) _ c.is_qualified.ensures
+    (ap not c.if-not-is_qualified.false) _ c.has_room.ensures (ap not c.if-not-has_room.false) _ (ready-list c.requires.ready _ c.part_of-list.ensures) _
     gained.0 gained.1 in
-    let p = admitted _ c.in-All.is in
-    let written = (rw c.in-All.is at c.add_ways-added.ensures).2 in record {
+    record {
       good_plan = p.ready.planned;
       t_bound = ready-table p.ready p.lent;
       r_len = p.lent.wide;
-      modelled = half-modelled p.ready _ p.lies _ _ written;
-      t = half_room p _ written;
+      modelled = half-modelled p.ready _ p.lies _ _ gained.2;
+      t = half_room p _ gained.2;
     }
 
 pub returns-in-All : goal.returns-in-All
 returns-in-All c =
-    let admitted : (k : ℕ) → c.add_ways-added.result ≡ All k
-    → Insertable c.args.sheet.now c.args.store.now c.args.plan c.args.table c.args.row.now
-    c.part_of-list.result k =
-    λ k told. let gained = rw told at c.add_ways-added.ensures in
-    insertable c.requires.ready c.requires.lent _ c.new_key.ensures (ap not c.if-not-new_key.false) _ c.is_qualified.ensures
-    (ap not c.if-not-is_qualified.false) _ c.has_room.ensures (ap not c.if-not-has_room.false) _ (ready-list c.requires.ready _ c.part_of-list.ensures) k
+    let gained = rw c.in-All.is at c.add_ways-added.ensures in
+    let p = insertable c.requires.ready c.requires.lent _ c.new_key.ensures (ap not c.if-not-new_key.false) _ c.is_qualified.ensures
+    (ap not c.if-not-is_qualified.false) _ c.has_room.ensures (ap not c.if-not-has_room.false) _ (ready-list c.requires.ready _ c.part_of-list.ensures) _
     gained.0 gained.1 in
-    let written = (rw c.in-All.is at c.add_ways-added.ensures).2 in
-    inserts-done (admitted _ c.in-All.is) _ written _ c.put_side.ensures
+    inserts-done p _ gained.2 _ c.put_side.ensures
 
 pub returns-in-NoRoom : goal.returns-in-NoRoom
 returns-in-NoRoom c =

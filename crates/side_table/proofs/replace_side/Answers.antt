@@ -1,9 +1,8 @@
 -- `side_table::replace_side` meets its contract: the new row stands over the old one, which is found, or the table is unkept.
 -- Assumes nothing.
 use mathlib.Core.Path.{sym}
-use Rattle.meaning.specs.Sheet.{sheet_of}
 use Rattle.store.proofs.Plans.{marked, unmarked}
-use Rattle.side_table.proofs.Parts.{Side, side-marked, side-narrow, side-long, side-kept}
+use Rattle.side_table.proofs.Parts.{side-marked, side-narrow, side-long, side-kept}
 use Rattle.side_table.proofs.Writes.{replace-unkept, replace-there, replace-below, replace-up, replace-kept}
 use borrow.Author.Rules.{rules}
 use native.Mathlib.Omega.{arith}
@@ -16,12 +15,11 @@ returns-then-plan-t-eq0 c =
 
 pub find_side-f-requires : goal.find_side-f-requires
 find_side-f-requires c =
-    let k = marked _ _ c.requires.good_plan _ c.requires.t_bound c.if-plan-t-eq0.false in
     record {
       good_plan = c.requires.good_plan;
       t_bound = c.requires.t_bound;
       r_len = c.requires.len;
-      t = k;
+      t = marked _ _ c.requires.good_plan _ c.requires.t_bound c.if-plan-t-eq0.false;
       modelled = c.requires.modelled;
     }
 
@@ -32,40 +30,33 @@ returns-in_default c =
 
 pub side_words-row-requires : goal.side_words-row-requires
 side_words-row-requires c =
-    let side : Side (sheet_of c.args.sheet.now) c.args.t c.part_of-p.result =
-    side-marked _ _ c.requires.good_plan _ c.requires.t_bound c.if-plan-t-eq0.false _ c.part_of-p.ensures in
     record {
       good_plan = c.requires.good_plan;
       t_bound = c.requires.t_bound;
       r_len = search rules;
-      t = (side).is-kept;
+      t = marked _ _ c.requires.good_plan _ c.requires.t_bound c.if-plan-t-eq0.false;
     }
 
 pub slice_bounds-row-end : goal.slice_bounds-row-end
 slice_bounds-row-end c =
-    let side : Side (sheet_of c.args.sheet.now) c.args.t c.part_of-p.result =
-    side-marked _ _ c.requires.good_plan _ c.requires.t_bound c.if-plan-t-eq0.false _ c.part_of-p.ensures in
-    omega (arith, side-narrow (side))
+    omega (arith, side-narrow (side-marked _ _ c.requires.good_plan _ c.requires.t_bound c.if-plan-t-eq0.false _ c.part_of-p.ensures))
 
 pub slice_bounds-replace_row-end : goal.slice_bounds-replace_row-end
 slice_bounds-replace_row-end c =
-    let side : Side (sheet_of c.args.sheet.now) c.args.t c.part_of-p.result =
-    side-marked _ _ c.requires.good_plan _ c.requires.t_bound c.if-plan-t-eq0.false _ c.part_of-p.ensures in
-    sym (side-long (side) c.side_words-row.ensures)
+    sym (side-long (side-marked _ _ c.requires.good_plan _ c.requires.t_bound c.if-plan-t-eq0.false _ c.part_of-p.ensures) c.side_words-row.ensures)
 
 pub replace_row-requires : goal.replace_row-requires
 replace_row-requires c =
-    let side : Side (sheet_of c.args.sheet.now) c.args.t c.part_of-p.result =
-    side-marked _ _ c.requires.good_plan _ c.requires.t_bound c.if-plan-t-eq0.false _ c.part_of-p.ensures in
+    let side = side-marked _ _ c.requires.good_plan _ c.requires.t_bound c.if-plan-t-eq0.false _ c.part_of-p.ensures in
     record {
-      kept = side-kept (side) c.requires.modelled;
-      at_bound = replace-below (side) c.requires.modelled c.requires.replaceable _ c.find_side-f.ensures _ c.in-At.is;
-      r_len = side-long (side) c.side_words-row.ensures;
-      t = replace-up (side) c.requires.modelled c.requires.replaceable _ c.find_side-f.ensures _ c.in-At.is c.side_words-row.ensures;
+      kept = side-kept side c.requires.modelled;
+      at_bound = replace-below side c.requires.modelled c.requires.replaceable _ c.find_side-f.ensures _ c.in-At.is;
+      r_len = side-long side c.side_words-row.ensures;
+      t = replace-up side c.requires.modelled c.requires.replaceable _ c.find_side-f.ensures _ c.in-At.is c.side_words-row.ensures;
     }
 
 pub returns : goal.returns
 returns c =
-    let side : Side (sheet_of c.args.sheet.now) c.args.t c.part_of-p.result =
-    side-marked _ _ c.requires.good_plan _ c.requires.t_bound c.if-plan-t-eq0.false _ c.part_of-p.ensures in
-    replace-kept (side) c.requires.modelled c.requires.replaceable _ c.find_side-f.ensures _ c.in-At.is c.side_words-row.ensures _ c.replace_row.ensures
+    let side = side-marked _ _ c.requires.good_plan _ c.requires.t_bound c.if-plan-t-eq0.false _ c.part_of-p.ensures in
+    replace-kept side c.requires.modelled c.requires.replaceable _ c.find_side-f.ensures _ c.in-At.is
+    c.side_words-row.ensures _ c.replace_row.ensures

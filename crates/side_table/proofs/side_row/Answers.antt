@@ -1,6 +1,5 @@
 -- `side_table::side_row` meets its contract. The invariant: the first j shown columns are written.
 -- Assumes nothing.
-use Prim.Native.Nat.{◌+◌, ◌*◌, ◌<◌}
 use mathlib.Core.Path.{refl}
 use lib.ListN.{length-set}
 use Rattle.lists.specs.Loops.{filled}
@@ -16,27 +15,19 @@ loop-j-init c = (search rules, search rules, refl)
 
 pub overflow_mul-c : goal.overflow_mul-c
 overflow_mul-c c =
-    let place : 8 * c.args.t + c.loop-j.j < 64 =
-    shown-place c.requires.good_plan _ c.requires.t_bound _ _ c.requires.row_len c.loop-j-test.true in
-    omega (arith, place)
+    omega (arith, shown-place c.requires.good_plan _ c.requires.t_bound _ _ c.requires.row_len c.loop-j-test.true)
 
 pub overflow_add-c : goal.overflow_add-c
 overflow_add-c c =
-    let place : 8 * c.args.t + c.loop-j.j < 64 =
-    shown-place c.requires.good_plan _ c.requires.t_bound _ _ c.requires.row_len c.loop-j-test.true in
-    omega (arith, place)
+    omega (arith, shown-place c.requires.good_plan _ c.requires.t_bound _ _ c.requires.row_len c.loop-j-test.true)
 
 pub offset_bounds-plan-t : goal.offset_bounds-plan-t
 offset_bounds-plan-t c =
-    let place : 8 * c.args.t + c.loop-j.j < 64 =
-    shown-place c.requires.good_plan _ c.requires.t_bound _ _ c.requires.row_len c.loop-j-test.true in
-    omega (arith, place)
+    omega (arith, shown-place c.requires.good_plan _ c.requires.t_bound _ _ c.requires.row_len c.loop-j-test.true)
 
 pub bounds-plan-t : goal.bounds-plan-t
 bounds-plan-t c =
-    let place : 8 * c.args.t + c.loop-j.j < 64 =
-    shown-place c.requires.good_plan _ c.requires.t_bound _ _ c.requires.row_len c.loop-j-test.true in
-    omega (arith, place)
+    omega (arith, shown-place c.requires.good_plan _ c.requires.t_bound _ _ c.requires.row_len c.loop-j-test.true)
 
 pub offset_bounds-r-c : goal.offset_bounds-r-c
 offset_bounds-r-c c =

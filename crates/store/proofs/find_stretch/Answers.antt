@@ -1,9 +1,9 @@
 -- `find_stretch` meets its contract: one law for each way through it.
 -- Assumes nothing.
-use Rattle.store.proofs.Plans.{few}
+use Rattle.store.proofs.Plans.{few, within-store}
 use Rattle.store.proofs.Checks.{check-of, check-some}
 use Rattle.store.proofs.Shows.{none-stand}
-use Rattle.store.proofs.Showing.{ShownPart, stretch-ends, part-stands, show-refused, show-length, show-number, show-unsound, show-part}
+use Rattle.store.proofs.Showing.{stretch-ends, part-stands, show-refused, show-length, show-number, show-unsound, show-part}
 use native.Mathlib.Omega.{arith}
 use Rattle.store.proofs.find_stretch.Goals as goal
 
@@ -40,29 +40,19 @@ part_of-p-requires c =
 
 pub offset_bounds-store-slot : goal.offset_bounds-store-slot
 offset_bounds-store-slot c =
-    let shown : ShownPart c.args.sheet.now c.args.store.now c.args.number c.part_of-p.result =
-    show-part _ _ _ _ c.check-checked.ensures c.in-Good.is c.if-store-plan.false c.if-n-number.false _
-    c.is_sound.ensures c.if-not-is_sound.false _ c.part_of-p.ensures in
-    omega (arith, (shown).kept.within.counted)
+    omega (arith, within-store _ (check-of _ _ c.check-checked.ensures c.in-Good.is) _ _ _ c.if-n-number.false c.part_of-p.ensures c.if-store-plan.false)
 
 pub bounds-store-slot : goal.bounds-store-slot
 bounds-store-slot c =
-    let shown : ShownPart c.args.sheet.now c.args.store.now c.args.number c.part_of-p.result =
-    show-part _ _ _ _ c.check-checked.ensures c.in-Good.is c.if-store-plan.false c.if-n-number.false _
-    c.is_sound.ensures c.if-not-is_sound.false _ c.part_of-p.ensures in
-    let k = (shown).kept.within in
-    omega (arith, k.counted, k.behind, k.ends)
+    omega (arith, within-store _ (check-of _ _ c.check-checked.ensures c.in-Good.is) _ _ _ c.if-n-number.false c.part_of-p.ensures c.if-store-plan.false)
 
 pub overflow_mul-result : goal.overflow_mul-result
 overflow_mul-result c =
-    let shown : ShownPart c.args.sheet.now c.args.store.now c.args.number c.part_of-p.result =
-    show-part _ _ _ _ c.check-checked.ensures c.in-Good.is c.if-store-plan.false c.if-n-number.false _
+    let shown = show-part _ _ _ _ c.check-checked.ensures c.in-Good.is c.if-store-plan.false c.if-n-number.false _
     c.is_sound.ensures c.if-not-is_sound.false _ c.part_of-p.ensures in
-    let k = (shown).kept in omega (arith, stretch-ends _ _ k, k.within.ends)
+    omega (arith, stretch-ends _ _ shown.kept)
 
 pub returns : goal.returns
 returns c =
-    let shown : ShownPart c.args.sheet.now c.args.store.now c.args.number c.part_of-p.result =
-    show-part _ _ _ _ c.check-checked.ensures c.in-Good.is c.if-store-plan.false c.if-n-number.false _
-    c.is_sound.ensures c.if-not-is_sound.false _ c.part_of-p.ensures in
-    part-stands _ _ _ _ (shown)
+    part-stands _ _ _ _ (show-part _ _ _ _ c.check-checked.ensures c.in-Good.is c.if-store-plan.false c.if-n-number.false _
+    c.is_sound.ensures c.if-not-is_sound.false _ c.part_of-p.ensures)
