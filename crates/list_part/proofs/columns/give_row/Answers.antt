@@ -1,33 +1,19 @@
 -- `give_row` meets its contract. The loop's invariant: the words before k are given, and the rest is as it was.
 -- Assumes nothing.
-use Prim.Native.Nat.{◌<◌}
 use mathlib.Core.Path.{refl}
-use lib.ListN.{length, length-set}
+use lib.ListN.{length-set}
 use Rattle.rows.proofs.Moves.{written_start}
 use Rattle.list_part.proofs.Words.{column-in, row_in, give-own, give-other, give-end}
 use borrow.Author.Rules.{rules}
 use native.Mathlib.Omega.{arith}
 use Rattle.list_part.proofs.columns.give_row.Goals as goal
 
-pub overflow_mul-base : goal.overflow_mul-base
-overflow_mul-base c = omega (arith, row_in _ _ _ _ c.listed-p.ensures c.requires.sheet_in_bounds)
-
 pub loop-k-init : goal.loop-k-init
 loop-k-init c = (search rules, row_in _ _ _ _ c.listed-p.ensures c.requires.sheet_in_bounds, refl, written_start _ _ _)
 
-pub offset_bounds-r-c : goal.offset_bounds-r-c
-offset_bounds-r-c c =
-    let inside : c.listing_no-l.result.column < length c.args.r.now =
-    column-in _ _ _ _ _ _ c.requires.rules c.requires.fits c.listed-p.ensures c.loop-k-test.true c.listing_no-l.ensures
-    c.if-l-t.true in
-    omega (arith, inside)
-
 pub bounds-r-c : goal.bounds-r-c
 bounds-r-c c =
-    let inside : c.listing_no-l.result.column < length c.args.r.now =
-    column-in _ _ _ _ _ _ c.requires.rules c.requires.fits c.listed-p.ensures c.loop-k-test.true c.listing_no-l.ensures
-    c.if-l-t.true in
-    inside
+    column-in _ _ _ _ _ _ c.requires.rules c.requires.fits c.listed-p.ensures c.loop-k-test.true c.listing_no-l.ensures c.if-l-t.true
 
 pub loop-k-preserved-then-l-t : goal.loop-k-preserved-then-l-t
 loop-k-preserved-then-l-t c = (

@@ -1,6 +1,5 @@
 -- `given_row` meets its contract. The loop's invariant: the words before k are given.
 -- Assumes nothing.
-use Prim.Native.Nat.{◌≤◌}
 use mathlib.Core.Path.{refl}
 use lib.ListN.{length-set}
 use Rattle.list_part.proofs.Given.{word_more, word_end}
@@ -19,34 +18,14 @@ given_word-requires c =
       k_bound = rw (← c.listed-p.ensures) c.loop-k-test.true;
     }
 
-pub offset_bounds-row-k : goal.offset_bounds-row-k
-offset_bounds-row-k c =
-    let few : c.loop-k.k ≤ 15 =
-    omega (arith, c.loop-k-test.true, c.listed-p.ensures, c.requires.rules.counts.listed-few) in
-    omega (arith, few)
-
-pub bounds-row-k : goal.bounds-row-k
-bounds-row-k c =
-    let few : c.loop-k.k ≤ 15 =
-    omega (arith, c.loop-k-test.true, c.listed-p.ensures, c.requires.rules.counts.listed-few) in
-    omega (arith, few)
-
-pub overflow_add-k : goal.overflow_add-k
-overflow_add-k c =
-    let few : c.loop-k.k ≤ 15 =
-    omega (arith, c.loop-k-test.true, c.listed-p.ensures, c.requires.rules.counts.listed-few) in
-    omega (arith, few)
-
 pub loop-k-preserved : goal.loop-k-preserved
-loop-k-preserved c =
-    let few : c.loop-k.k ≤ 15 =
-    omega (arith, c.loop-k-test.true, c.listed-p.ensures, c.requires.rules.counts.listed-few) in (
-      omega (arith, c.loop-k-test.true),
-      simp length-set c.loop-k.invariant.1,
-      rw c.given_word.ensures
-          (word_more _ _ _ _ _ c.requires.sheet_in_bounds _ c.loop-k.k (omega (arith, few, c.loop-k.invariant.1))
-          (rw (← c.listed-p.ensures) c.loop-k-test.true) c.loop-k.invariant.2),
-    )
+loop-k-preserved c = (
+  omega (arith, c.loop-k-test.true),
+  simp length-set c.loop-k.invariant.1,
+  rw c.given_word.ensures
+      (word_more _ _ _ _ _ c.requires.sheet_in_bounds _ c.loop-k.k (omega (arith, c.requires.rules.counts.listed-few))
+      (rw (← c.listed-p.ensures) c.loop-k-test.true) c.loop-k.invariant.2),
+)
 
 pub returns : goal.returns
 returns c =

@@ -1,7 +1,5 @@
 -- `shows_row` meets its contract. The loop's invariant: each word before k shows r's value, or is of another table.
 -- Assumes nothing.
-use Prim.Native.Nat.{◌<◌}
-use lib.ListN.{length}
 use Rattle.lists.specs.Loops.{every}
 use Rattle.lists.proofs.Loops.{every_more}
 use Rattle.list_part.proofs.Words.{column-in, row_in, shows-own, shows-other, shows-not, shows-end}
@@ -9,26 +7,13 @@ use borrow.Author.Rules.{rules}
 use native.Mathlib.Omega.{arith}
 use Rattle.list_part.proofs.columns.shows_row.Goals as goal
 
-pub overflow_mul-base : goal.overflow_mul-base
-overflow_mul-base c = omega (arith, row_in _ _ _ _ c.listed-p.ensures c.requires.sheet_in_bounds)
-
 pub loop-k-init : goal.loop-k-init
 unfolding every
 loop-k-init c = (search rules, row_in _ _ _ _ c.listed-p.ensures c.requires.sheet_in_bounds, search rules)
 
-pub offset_bounds-r-c : goal.offset_bounds-r-c
-offset_bounds-r-c c =
-    let inside : c.listing_no-l.result.column < length c.args.r.now =
-    column-in _ _ _ _ _ _ c.requires.rules c.requires.fits c.listed-p.ensures c.loop-k-test.true c.listing_no-l.ensures
-    c.if-l-t.true in
-    omega (arith, inside)
-
 pub bounds-r-c : goal.bounds-r-c
 bounds-r-c c =
-    let inside : c.listing_no-l.result.column < length c.args.r.now =
-    column-in _ _ _ _ _ _ c.requires.rules c.requires.fits c.listed-p.ensures c.loop-k-test.true c.listing_no-l.ensures
-    c.if-l-t.true in
-    inside
+    column-in _ _ _ _ _ _ c.requires.rules c.requires.fits c.listed-p.ensures c.loop-k-test.true c.listing_no-l.ensures c.if-l-t.true
 
 pub returns-then-s-base : goal.returns-then-s-base
 returns-then-s-base c =

@@ -1,8 +1,6 @@
 -- `turn` meets its contract. The loop's invariant: the listed columns before k do not say which way.
 -- Assumes nothing.
-use Prim.Native.Nat.{◌<◌}
 use mathlib.Core.Path.{refl}
-use lib.ListN.{length}
 use Rattle.list_part.proofs.Words.{column-in}
 use Rattle.list_part.proofs.Given.{turn-other, turn-less, turn-greater, turn-same, turn_end}
 use borrow.Author.Rules.{rules}
@@ -12,33 +10,13 @@ use Rattle.list_part.proofs.columns.turn.Goals as goal
 pub loop-k-init : goal.loop-k-init
 loop-k-init c = (search rules, refl)
 
-pub offset_bounds-new-c : goal.offset_bounds-new-c
-offset_bounds-new-c c =
-    let in-new : c.listing_no-l.result.column < length c.args.new.now =
-    column-in _ _ _ _ _ _ c.requires.rules c.requires.fits_2 c.listed-p.ensures c.loop-k-test.true c.listing_no-l.ensures
-    c.if-l-t.true in
-    omega (arith, in-new)
-
 pub bounds-new-c : goal.bounds-new-c
 bounds-new-c c =
-    let in-new : c.listing_no-l.result.column < length c.args.new.now =
-    column-in _ _ _ _ _ _ c.requires.rules c.requires.fits_2 c.listed-p.ensures c.loop-k-test.true c.listing_no-l.ensures
-    c.if-l-t.true in
-    in-new
-
-pub offset_bounds-old-c : goal.offset_bounds-old-c
-offset_bounds-old-c c =
-    let in-old : c.listing_no-l.result.column < length c.args.old.now =
-    column-in _ _ _ _ _ _ c.requires.rules c.requires.fits c.listed-p.ensures c.loop-k-test.true c.listing_no-l.ensures
-    c.if-l-t.true in
-    omega (arith, in-old)
+    column-in _ _ _ _ _ _ c.requires.rules c.requires.fits_2 c.listed-p.ensures c.loop-k-test.true c.listing_no-l.ensures c.if-l-t.true
 
 pub bounds-old-c : goal.bounds-old-c
 bounds-old-c c =
-    let in-old : c.listing_no-l.result.column < length c.args.old.now =
-    column-in _ _ _ _ _ _ c.requires.rules c.requires.fits c.listed-p.ensures c.loop-k-test.true c.listing_no-l.ensures
-    c.if-l-t.true in
-    in-old
+    column-in _ _ _ _ _ _ c.requires.rules c.requires.fits c.listed-p.ensures c.loop-k-test.true c.listing_no-l.ensures c.if-l-t.true
 
 pub returns-then-a-b : goal.returns-then-a-b
 returns-then-a-b c =
