@@ -56,7 +56,7 @@ module _ (s : Sheet) (g : Good s) (ws : Words) (ok : T (sound s ws)) (t : ℕ) (
       pub delete-done : (numbers : Words) → Marked (walk_rows s (model_of s ws) t r) (rows_at s ws s.n) numbers
           → applied s ws (change_of 2 t r o)
           ≡ done s ws t (length (walk_rows s (model_of s ws) t r)) 0 (take_rows (side_row s t r) (rows_at s ws t))
-              (spared (is_marked numbers) (rows_at s ws s.n))
+          (spared (is_marked numbers) (rows_at s ws s.n))
       unfolding delete_effect put_rows model_of
       delete-done numbers h =
           let same = walk_rows_lem s g ws ok t l r (is_t q) in

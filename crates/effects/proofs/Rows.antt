@@ -55,7 +55,7 @@ module _ (s : Sheet) (g : Good s) (ws : Words) (ok : T (sound s ws)) where
   walk_rows_lem t l r q =
       ⊎_elim (λ can. rows-through s g (model_of s ws) t l r (sound-once s ws ok) q can)
       (λ no f. ap (total f) (no-through s (model_of s ws) t r (λ h. no (and-snd (qualifies s (model_of s ws) t r) (can_take s t) h))
-          ∙ sym (walks-none t l r no)))
+      ∙ sym (walks-none t l r no)))
       (decided (can_take s t))
 
 -- the side row of a kept table

@@ -50,7 +50,7 @@ module _ (base : Tables) (e : Edge) where
       let rows = rows_of base e.child in
       let all = every (met_at base e) (length rows) in
       ⊎_elim (λ p. or_inr (not (is_promised e)) all (is_t (every-from (met_at base e) (length rows)
-          (λ i l. T→≡ _ (h p (get_or rows i []) (mem-get_or [] rows i l))))))
+      (λ i l. T→≡ _ (h p (get_or rows i []) (mem-get_or [] rows i l))))))
       (λ p. or_inl (not (is_promised e)) all (F→not (is_promised e) p)) (decided (is_promised e))
 
 module _ (s : Sheet) (g : Good s) (base : Tables) (many : length base ≡ s.n)

@@ -125,7 +125,7 @@ pub select-count : (p : Row → Bool) (base : Tables) (t : ℕ) → length (sele
 unfolding row_no
 select-count p base t =
     ap (λ (rows : Rows). length (select p rows)) (sym (numbered-rows (rows_of base t)))
-        ∙ length_up p (λ i. get_or (rows_of base t) i []) (length (rows_of base t))
+    ∙ length_up p (λ i. get_or (rows_of base t) i []) (length (rows_of base t))
   where
     numbered-rows : (rows : Rows) → map (λ i. get_or rows i []) (up_to (length rows)) ≡ rows
     numbered-rows rows = unfold numbered in numbered-all rows

@@ -51,7 +51,7 @@ by-kind s P insert delete update c h = go (eqb c.kind 1) refl (eqb c.kind 2) ref
     by : ℕ → Bool
     by k =
         by_kind k (eqb (length r) 0 && has_width s t r') (has_width s t r && eqb (length r') 0)
-            (has_width s t r && has_width s t r' && eqb (key r) (key r')) false
+        (has_width s t r && has_width s t r' && eqb (key r) (key r')) false
 
     inside : t < s.n
     inside = ltb→lt t s.n (and-fst (ltb t s.n) (by c.kind) h)
@@ -230,7 +230,7 @@ module _ (s : Sheet) (g : Good s) (m : Model) (p : Proper s m) where
       let old = facts (old_row s m t r ∷ found_show s m t r ∷ has_rows (effect s m (change_of 3 t r r')).list_out m.list ∷ []) h in
       proper-after s m p t l (update_effect s m t r r') (side-row-wide s t r' l) (side-row-none s t r') (once-swap s g m p t l r r' k q old.0)
       (by-can (can_take s t) (rows_through s m t r') (map (with_columns s.listed t r') (rows_found s m t r)) (through-wide s m t r')
-          (found-wide s m p t r r'))))
+      (found-wide s m p t r r'))))
     where
       by-can : (b : Bool) (xs ys : Rows) → Wide (columns s s.n) xs → Wide (columns s s.n) ys → Wide (columns s s.n) (cond b xs ys)
       by-can true xs ys h k = h

@@ -101,7 +101,7 @@ good_counts ws =
     let c = condition_count ws in
     let p = listed_count ws in
     between 1 most_tables n && eqb (e + 1) n && between 0 most_conditions c && between 1 most_listed p
-        && eqb (length ws) (4 + 2 * n + 1 + 4 * e + 4 * c + 2 * p)
+    && eqb (length ws) (4 + 2 * n + 1 + 4 * e + 4 * c + 2 * p)
 
 -- Refusal 2: each word is within the sheet's rules. An edge's child column is 1 to width - 1, its promise 0 or 1
 unfoldable pub good_edge : Sheet → Edge → Bool

@@ -120,7 +120,7 @@ module _ (s : Sheet) (g : Good s) (ws : Words) (m : Model) (st : Stands s ws m) 
         many = with-many m s.n st.many rows p;
         absent =
             λ t a b. get_or-set_other spliced (slot s p) t k 0 (slot-absent s g p t a b) ∙ spliced-count s ws st.long p i x size-x t (omega arith)
-                ∙ st.absent t a b;
+            ∙ st.absent t a b;
         holds = λ q j. here-or Held p q own (λ d. other q j d);
       }
     where

@@ -189,9 +189,9 @@ module _ (s : Sheet) (g : Good s) (fr : Frame s) (r : Row) (once : (t : ℕ) →
       ∙ choices-append count A R (r ∷ []) rest l
       ∙ ap₂ ◌+◌
       (total-ways count (λ way. cond (is_way s way) (f (list_row s way)) 0) (alone fr (r ∷ []))
-          (λ way k. ours way (is_way s way) (λ w. through-r way k (is_t w))))
+      (λ way k. ours way (is_way s way) (λ w. through-r way k (is_t w))))
       (total-ways count (λ way. 0) (alone fr rest) (λ way k. theirs way (is_way s way) (λ w. not_through way k (is_t w)))
-          ∙ total-zero (choices (alone fr rest)))
+      ∙ total-zero (choices (alone fr rest)))
       ∙ add-zero (total (λ way. cond (is_way s way) (f (list_row s way)) 0) (choices (alone fr (r ∷ []))))
       ∙ sym (total-way_rows s (alone fr (r ∷ [])) f)
     where
