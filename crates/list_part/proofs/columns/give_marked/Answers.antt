@@ -8,9 +8,6 @@ use Rattle.list_part.proofs.columns.give_marked.Goals as goal
 pub loop-j-init : goal.loop-j-init
 loop-j-init c = (omega arith, giving-start _ _ _ _ _ _)
 
-pub overflow_cast-i : goal.overflow_cast-i
-overflow_cast-i c = omega (arith, c.type_inv.numbers c.loop-j.j)
-
 pub give_row-requires : goal.give_row-requires
 give_row-requires c =
     record {

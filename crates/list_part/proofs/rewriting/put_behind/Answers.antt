@@ -3,14 +3,9 @@
 use Rattle.lists.specs.Parts.{part}
 use Rattle.lists.proofs.Parts.{put_back}
 use Rattle.store.specs.Parts.{words_in}
-use Rattle.store.proofs.Parts.{part-long}
 use Rattle.list_part.proofs.Rewrites.{row_room}
 use native.Mathlib.Omega.{arith}
 use Rattle.list_part.proofs.rewriting.put_behind.Goals as goal
-
-pub overflow_mul-place : goal.overflow_mul-place
-overflow_mul-place c =
-    omega (arith, row_room _ _ c.requires.within _ c.requires.k_lt_room, part-long _ _ c.requires.within)
 
 pub write_over-requires : goal.write_over-requires
 unfolding words_in part
