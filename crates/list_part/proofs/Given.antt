@@ -11,8 +11,8 @@ use lib.ListN.{length, get_or, take, drop, set, take-append-drop, drop_of_length
 use lib.Seq.{take_all, take-suc, take-suc-set, drop-cons}
 use borrow.Author.Tests.{eq-eqb, ne_eqb}
 use Rattle.lists.specs.Lists.{Words, at, flat}
-use Rattle.rows.specs.declared.Order.{Order}
-use Rattle.rows.specs.declared.Order.TheVariants.{Less, Equal, Greater}
+use Rattle.std.specs.declared.cmp.Ordering.{Ordering}
+use Rattle.std.specs.declared.cmp.Ordering.TheVariants.{Less, Equal, Greater}
 use Rattle.rows.specs.Rows.{Row, Rows, Wide, cut, word_order, then_by, row_order, smaller}
 use Rattle.rows.specs.Words.{row}
 use Rattle.rows.specs.Marks.{altered, is_marked, Numbers}
@@ -138,7 +138,7 @@ order-turn (l ∷ ls) t old new (v ∷ row) e h =
     go : (b : Bool) → v ≡ cond b (at old l.column) v → row_order (with_columns ls t new row) row ≡ turn_of ls t old new
         → then_by (word_order (cond b (at new l.column) v) v) (row_order (with_columns ls t new row) row)
         ≡ cond b (then_by (word_order (at new l.column) (at old l.column)) (turn_of ls t old new)) (turn_of ls t old new)
-    go true q ih = ap₂ (λ (u : ℕ) (o : Order). then_by (word_order (at new l.column) u) o) q ih
+    go true q ih = ap₂ (λ (u : ℕ) (o : Ordering). then_by (word_order (at new l.column) u) o) q ih
     go false q ih = rw (word-equal v v refl) ih
 
 module _ (ws : Words) (t : ℕ) (old new row : Row) (wide : length row ≡ listed_count ws) (h : T (shows ws t old row)) where

@@ -2,8 +2,8 @@
 -- Assumes nothing.
 use Rattle.std.specs.Prelude.{ℕ, ◌*◌, ◌<◌, ◌≡◌, Bool, true, cond, List, [], ◌∷◌, ◌++◌, T, eqb, length, get_or, drop}
 use Rattle.lists.specs.Lists.{Words, at, flat}
-use Rattle.rows.specs.declared.Order.{Order}
-use Rattle.rows.specs.declared.Order.TheVariants.{Equal}
+use Rattle.std.specs.declared.cmp.Ordering.{Ordering}
+use Rattle.std.specs.declared.cmp.Ordering.TheVariants.{Equal}
 use Rattle.rows.specs.Rows.{Row, Rows, word_order, then_by, smaller, same_row, cut}
 use Rattle.rows.specs.Words.{row, written}
 use Rattle.rows.specs.Marks.{altered, is_marked}
@@ -38,7 +38,7 @@ unfoldable pub given : Words → ℕ → Row → Words → ℕ → Words → Wor
 given ws t r numbers n s = flat (altered (is_marked numbers) (gives ws t r) (cut (listed_count ws) n s)) ++ drop (n * listed_count ws) s
 
 -- how a list row with old's values in table t's columns stands, with new's there, to what it was
-unfoldable pub turn_of : List Listed → ℕ → Row → Row → Order
+unfoldable pub turn_of : List Listed → ℕ → Row → Row → Ordering
 turn_of [] t old new = Equal
 turn_of (l ∷ ls) t old new =
     cond (eqb l.table t) (then_by (word_order (at new l.column) (at old l.column)) (turn_of ls t old new)) (turn_of ls t old new)

@@ -6,7 +6,7 @@ ghost use Rattle.meaning.specs.Sheet.{sheet_of, listed_count};
 ghost use Rattle.sheet.specs.Rules.{Rules};
 ghost use Rattle.list_part.specs.Gives.{row_shows, row_with, row_given, given, turn_of, Fits};
 
-use rows::Order;
+use std::cmp::Ordering;
 use sheet::LISTED;
 
 // Whether row i of s shows r's values in table t's columns.
@@ -104,7 +104,7 @@ pub fn give_marked(sheet: &[u64], s: &mut [u64], count: usize, numbers: &[u16], 
 }
 
 // How a list row that shows old's values in table t's columns stands, with new's there, to what it was: all such rows alike.
-pub fn turn(sheet: &[u64], t: usize, old: &[u64], new: &[u64]) -> Order
+pub fn turn(sheet: &[u64], t: usize, old: &[u64], new: &[u64]) -> Ordering
     requires rules { Rules sheet.now }
     requires fits { Fits sheet.now t old.now }
     requires fits_2 { Fits sheet.now t new.now }
@@ -120,12 +120,12 @@ pub fn turn(sheet: &[u64], t: usize, old: &[u64], new: &[u64]) -> Order
             let a = new[c];
             let b = old[c];
             if a < b {
-                return Order::Less;
+                return Ordering::Less;
             }
             if b < a {
-                return Order::Greater;
+                return Ordering::Greater;
             }
         }
     }
-    Order::Equal
+    Ordering::Equal
 }

@@ -9,8 +9,8 @@ use native.Mathlib.Omega.{arith}
 use lib.Dec.{T, ltb, eqb, eqb→eq}
 use borrow.Author.Tests.{ltb-true, ltb-false, lt-ltb, le-ltb, eq-eqb, not-true}
 use Rattle.lists.proofs.Truth.{is_t, T→≡, F→≡, and-fst, and-snd}
-use Rattle.rows.specs.declared.Order.{Order}
-use Rattle.rows.specs.declared.Order.TheVariants.{Less, Equal, Greater}
+use Rattle.std.specs.declared.cmp.Ordering.{Ordering}
+use Rattle.std.specs.declared.cmp.Ordering.TheVariants.{Less, Equal, Greater}
 use Rattle.rows.specs.Rows.{Row, word_order, then_by, row_order, is_less, smaller, same_row, not_after}
 
 -- Words
@@ -43,7 +43,7 @@ compared x y = go (ltb x y) refl (ltb y x) refl
         eq (omega arith)
 
 -- The two rows changed over
-abbrev pub flip : Order → Order
+abbrev pub flip : Ordering → Ordering
 flip Less = Greater
 flip Equal = Equal
 flip Greater = Less
@@ -104,7 +104,7 @@ pub order-greater-differs : (r s : Row) → row_order r s ≡ Greater → same_r
 order-greater-differs r s e = F→≡ (same_row r s) (λ h. let d : Equal ≡ Greater = sym (same-order r s h) ∙ e in let z : ◌≡◌ {A = ℕ} 0 1 = cc in omega arith)
 
 -- What an answer of `row_order` says of `smaller`
-is_less-less : (o : Order) → is_less o ≡ true → o ≡ Less
+is_less-less : (o : Ordering) → is_less o ≡ true → o ≡ Less
 unfolding is_less
 is_less-less Less h = refl
 is_less-less Equal h = absurd (false≢true h)
@@ -207,7 +207,7 @@ smaller-once r s h = less-not-smaller r s (smaller-less r s h)
 pub neither-smaller : (r s : Row) → smaller r s ≡ false → smaller s r ≡ false → r ≡ s
 neither-smaller r s e f = go (row_order r s) refl
   where
-    go : (o : Order) → row_order r s ≡ o → r ≡ s
+    go : (o : Ordering) → row_order r s ≡ o → r ≡ s
     go Less g = absurd (true≢false (sym (less-smaller r s g) ∙ e))
     go Equal g = order-equal r s g
     go Greater g = absurd (true≢false (sym (greater-smaller r s g) ∙ f))

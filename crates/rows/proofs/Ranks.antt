@@ -14,9 +14,9 @@ use Rattle.lists.specs.Totals.{total, one}
 use Rattle.lists.proofs.Truth.{is_t, T→≡, F→≡, false→F, any-get, any-make, mem-get_or, eq→eqb, eqb→≡}
 use Rattle.lists.proofs.Totals.{total-sum, total-same, any-total}
 use Rattle.lists.proofs.Search.{Falls, many-le}
-use Rattle.rows.specs.declared.Order.{Order}
-use Rattle.rows.specs.declared.Order.TheVariants.{Less, Equal, Greater}
-use Rattle.rows.specs.declared.Found.TheVariants.{At, Missing}
+use Rattle.std.specs.declared.cmp.Ordering.{Ordering}
+use Rattle.std.specs.declared.cmp.Ordering.TheVariants.{Less, Equal, Greater}
+use Rattle.std.specs.Prelude.{Some, None}
 use Rattle.rows.specs.Rows.{Row, Rows, key, cut, row_order, smaller, same_row, not_after, rising, has_row, has_key}
 use Rattle.rows.specs.Ranks.{rank, rank_after, times, rank_key, found_row, found_key}
 use Rattle.rows.specs.Words.{row}
@@ -63,7 +63,7 @@ rank-times r rows =
     total-same (λ q. one (not_after q r)) (λ q. one (smaller q r) + one (same_row r q)) rows (λ q m. each q (row_order r q) refl)
     ∙ total-sum (λ q. one (smaller q r)) (λ q. one (same_row r q)) rows
   where
-    each : (q : Row) (o : Order) → row_order r q ≡ o → one (not_after q r) ≡ one (smaller q r) + one (same_row r q)
+    each : (q : Row) (o : Ordering) → row_order r q ≡ o → one (not_after q r) ≡ one (smaller q r) + one (same_row r q)
     each q Less e = rw (less-smaller r q e, less-not-smaller r q e, order-less-differs r q e)
     each q Equal e =
         let a : smaller r q ≡ false = subst (λ (x : Row). smaller r x ≡ false) (order-equal r q e) (smaller-itself r) in
@@ -129,13 +129,13 @@ rank_key-at k rows u h =
     (lt, omega (arith, eqb→≡ k (key last) later.3))
 
 -- Found or missing, by what stands at the place
-found-yes : (r : Row) (rows : Rows) (k : ℕ) → k ≡ rank r rows → k < length rows → get_or rows k [] ≡ r → At k ≡ found_row r rows
+found-yes : (r : Row) (rows : Rows) (k : ℕ) → k ≡ rank r rows → k < length rows → get_or rows k [] ≡ r → Some k ≡ found_row r rows
 unfolding found_row
 found-yes r rows k e l q =
     let has : T (has_row r rows) = any-make (same_row r) rows (get_or rows k []) (mem-get_or [] rows k l) (≡→same r (get_or rows k []) (sym q)) in
-    rw (T→≡ (has_row r rows) has) (ap At e)
+    rw (T→≡ (has_row r rows) has) (ap Some e)
 
-found-no : (r : Row) (rows : Rows) (k : ℕ) → T (rising rows) → k ≡ rank r rows → (k < length rows → get_or rows k [] ≡ r → ⊥) → Missing ≡ found_row r rows
+found-no : (r : Row) (rows : Rows) (k : ℕ) → T (rising rows) → k ≡ rank r rows → (k < length rows → get_or rows k [] ≡ r → ⊥) → None ≡ found_row r rows
 unfolding found_row
 found-no r rows k u e f =
     let h : has_row r rows ≡ false = F→≡ (has_row r rows) (λ h. let p = rank-at r rows u h in f (omega (arith, p.0)) (rw e p.1)) in
@@ -143,25 +143,25 @@ found-no r rows k u e f =
 
 -- `find`: the place is behind all rows; the row there is r; it is another
 module _ (w n k : ℕ) (r : Row) (s : Words) (u : T (rising (cut w n s))) (e : k ≡ rank r (cut w n s)) where
-  pub find-end : n ≤ k → Missing ≡ found_row r (cut w n s)
+  pub find-end : n ≤ k → None ≡ found_row r (cut w n s)
   find-end h = found-no r (cut w n s) k u e (λ l q. omega (arith, cut-length w n s))
 
-  pub find-here : (o : Order) → k < n → o ≡ row_order r (row w k s) → o ≡ Equal → At k ≡ found_row r (cut w n s)
+  pub find-here : (o : Ordering) → k < n → o ≡ row_order r (row w k s) → o ≡ Equal → Some k ≡ found_row r (cut w n s)
   find-here o l f g =
       found-yes r (cut w n s) k e (rw cut-length l) (cut_at w n s k l ∙ sym (order-equal r (row w k s) (sym f ∙ g)))
 
-  find-other : k < n → same_row r (row w k s) ≡ false → Missing ≡ found_row r (cut w n s)
+  find-other : k < n → same_row r (row w k s) ≡ false → None ≡ found_row r (cut w n s)
   find-other l d = found-no r (cut w n s) k u e (λ m q. absurd (true≢false (sym (T→≡ _ (≡→same r (row w k s) (sym q ∙ cut_at w n s k l))) ∙ d)))
 
-  pub find-less : (o : Order) → k < n → o ≡ row_order r (row w k s) → o ≡ Less → Missing ≡ found_row r (cut w n s)
+  pub find-less : (o : Ordering) → k < n → o ≡ row_order r (row w k s) → o ≡ Less → None ≡ found_row r (cut w n s)
   find-less o l f g = find-other l (order-less-differs r (row w k s) (sym f ∙ g))
 
-  pub find-greater : (o : Order) → k < n → o ≡ row_order r (row w k s) → o ≡ Greater → Missing ≡ found_row r (cut w n s)
+  pub find-greater : (o : Ordering) → k < n → o ≡ row_order r (row w k s) → o ≡ Greater → None ≡ found_row r (cut w n s)
   find-greater o l f g = find-other l (order-greater-differs r (row w k s) (sym f ∙ g))
 
 -- `find_key`
 module _ (w n p k : ℕ) (s : Words) (u : T (rising (cut w n s))) (e : p ≡ rank_key k (cut w n s)) where
-  key-no : (p < n → key (row w p s) ≡ k → ⊥) → Missing ≡ found_key k (cut w n s)
+  key-no : (p < n → key (row w p s) ≡ k → ⊥) → None ≡ found_key k (cut w n s)
   unfolding found_key
   key-no f =
       let h : has_key k (cut w n s) ≡ false = F→≡ (has_key k (cut w n s)) (λ h.
@@ -170,19 +170,19 @@ module _ (w n p k : ℕ) (s : Words) (u : T (rising (cut w n s))) (e : p ≡ ran
       f l (rw (← cut_at w n s p l, e) q.1)) in
       rw h
 
-  pub key-end-missing : n ≤ p → Missing ≡ found_key k (cut w n s)
+  pub key-end-missing : n ≤ p → None ≡ found_key k (cut w n s)
   key-end-missing h = key-no (λ l q. omega arith)
 
-  pub key_here : 0 < w → p < n → at s (p * w) ≡ k → At p ≡ found_key k (cut w n s)
+  pub key_here : 0 < w → p < n → at s (p * w) ≡ k → Some p ≡ found_key k (cut w n s)
   unfolding found_key
   key_here pos l q =
       let rows : Rows = cut w n s in
       let m : Mem (get_or rows p []) rows = mem-get_or [] rows p (rw cut-length l) in
       let g : k ≡ key (get_or rows p []) = rw (cut_at w n s p l) (sym (row-key w p s pos ∙ q)) in
       let h : has_key k rows ≡ true = T→≡ (has_key k rows) (any-make (λ r. eqb k (key r)) rows (get_or rows p []) m (eq→eqb g)) in
-      rw h (ap At e)
+      rw h (ap Some e)
 
-  pub key-other : 0 < w → (at s (p * w) ≡ k → ⊥) → Missing ≡ found_key k (cut w n s)
+  pub key-other : 0 < w → (at s (p * w) ≡ k → ⊥) → None ≡ found_key k (cut w n s)
   key-other pos f = key-no (λ l q. f (sym (row-key w p s pos) ∙ q))
 
 -- What `find` and `find_key` say to their callers: i is the place, one of n, and what is looked for stands there
@@ -192,35 +192,35 @@ pub record Standing (found : Bool) (k n : ℕ) (P : ℕ → Type 0) (i : ℕ) : 
   pub below : i < n
   pub there : P i
 
-standing : (b : Bool) (k n : ℕ) (P : ℕ → Type 0) (i : ℕ) → (T b → (k < n) × P k) → At i ≡ cond b (At k) Missing → Standing b k n P i
+standing : (b : Bool) (k n : ℕ) (P : ℕ → Type 0) (i : ℕ) → (T b → (k < n) × P k) → Some i ≡ cond b (Some k) None → Standing b k n P i
 standing true k n P i h e =
     let q : i ≡ k = cc in
     record { has = tt; place = q; below = rw q (h tt).0; there = subst P (sym q) (h tt).1 }
 standing false k n P i h e = let z : ◌≡◌ {A = ℕ} 0 1 = cc in absurd (omega arith)
 
-missing : (b : Bool) (k : ℕ) → Missing ≡ cond b (At k) Missing → b ≡ false
+missing : (b : Bool) (k : ℕ) → None ≡ cond b (Some k) None → b ≡ false
 missing true k e = let z : ◌≡◌ {A = ℕ} 0 1 = cc in absurd (omega arith)
 missing false k e = refl
 
 abbrev pub There : Row → Rows → ℕ → Type 0
 There r rows i = Standing (has_row r rows) (rank r rows) (length rows) (λ j. get_or rows j [] ≡ r) i
 
-pub found-row : (r : Row) (rows : Rows) (i : ℕ) → T (rising rows) → At i ≡ found_row r rows → There r rows i
+pub found-row : (r : Row) (rows : Rows) (i : ℕ) → T (rising rows) → Some i ≡ found_row r rows → There r rows i
 unfolding found_row
 found-row r rows i u e = standing (has_row r rows) (rank r rows) (length rows) (λ j. get_or rows j [] ≡ r) i (rank-at r rows u) e
 
-pub missing-row : (r : Row) (rows : Rows) → Missing ≡ found_row r rows → has_row r rows ≡ false
+pub missing-row : (r : Row) (rows : Rows) → None ≡ found_row r rows → has_row r rows ≡ false
 unfolding found_row
 missing-row r rows e = missing (has_row r rows) (rank r rows) e
 
 abbrev pub ThereKey : ℕ → Rows → ℕ → Type 0
 ThereKey k rows i = Standing (has_key k rows) (rank_key k rows) (length rows) (λ j. key (get_or rows j []) ≡ k) i
 
-pub found-key : (k : ℕ) (rows : Rows) (i : ℕ) → T (rising rows) → At i ≡ found_key k rows → ThereKey k rows i
+pub found-key : (k : ℕ) (rows : Rows) (i : ℕ) → T (rising rows) → Some i ≡ found_key k rows → ThereKey k rows i
 unfolding found_key
 found-key k rows i u e = standing (has_key k rows) (rank_key k rows) (length rows) (λ j. key (get_or rows j []) ≡ k) i (rank_key-at k rows u) e
 
-pub missing-key : (k : ℕ) (rows : Rows) → Missing ≡ found_key k rows → has_key k rows ≡ false
+pub missing-key : (k : ℕ) (rows : Rows) → None ≡ found_key k rows → has_key k rows ≡ false
 unfolding found_key
 missing-key k rows e = missing (has_key k rows) (rank_key k rows) e
 

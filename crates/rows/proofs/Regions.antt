@@ -13,8 +13,7 @@ use lib.Seq.{length-take-le, drop_at, drop-drop, set_split, take_all}
 use Rattle.lists.specs.Lists.{Words, all, flat}
 use Rattle.lists.specs.Totals.{total, one}
 use Rattle.lists.proofs.Truth.{all_cons, all_first, all_rest, eqb→≡}
-use Rattle.rows.specs.declared.Found.{Found}
-use Rattle.rows.specs.declared.Found.TheVariants.{At, Missing}
+use Rattle.std.specs.Prelude.{Option, Some, None}
 use Rattle.rows.specs.Rows.{Row, Rows, cut, smaller, same_row, not_after, rising, put_row, has_row, take_row}
 use Rattle.rows.specs.Ranks.{rank, found_row}
 use Rattle.rows.specs.Words.{raised, lowered, written, put_words, shut_words}
@@ -289,15 +288,15 @@ region-replace w n i r s z g l len u ez' =
     holds w n (set (cut w n s) i r) z c (record { fits = omega (arith, g.fits); up = rw c u; zeros = rw d g.zeros })
 
 -- `take`: by what `find` answered
-module _ (w n : ℕ) (r : Row) (s : Words) (f : Found) (g : Region w n s) (e : f ≡ found_row r (cut w n s)) where
-  pub found_below : (k : ℕ) → f ≡ At k → k < n
+module _ (w n : ℕ) (r : Row) (s : Words) (f : Option ℕ) (g : Region w n s) (e : f ≡ found_row r (cut w n s)) where
+  pub found_below : (k : ℕ) → f ≡ Some k → k < n
   found_below k q = omega (arith, (found-row r (cut w n s) k g.up (sym q ∙ e)).below, cut-length w n s)
 
-  pub take_found : (k : ℕ) (z : Words) → f ≡ At k → Holds w (n - 1) (take_at k (cut w n s)) z → Holds w (n - 1) (take_row r (cut w n s)) z
+  pub take_found : (k : ℕ) (z : Words) → f ≡ Some k → Holds w (n - 1) (take_at k (cut w n s)) z → Holds w (n - 1) (take_row r (cut w n s)) z
   take_found k z q h =
       holds_same w (n - 1) (take_at k (cut w n s)) (take_row r (cut w n s)) z
       (sym (take-at-rank r (cut w n s) k g.up (found-row r (cut w n s) k g.up (sym q ∙ e)))) h
 
-  pub take-missing : f ≡ Missing → Holds w n (take_row r (cut w n s)) s
+  pub take-missing : f ≡ None → Holds w n (take_row r (cut w n s)) s
   take-missing q =
       holds_same w n (cut w n s) (take_row r (cut w n s)) s (sym (take_none r (cut w n s) (missing-row r (cut w n s) (sym q ∙ e)))) (region-holds w n s g)

@@ -14,8 +14,8 @@ use Rattle.lists.specs.Totals.{total, one}
 use Rattle.lists.proofs.Truth.{is_t, T→≡}
 use Rattle.lists.proofs.Rises.{rises-to}
 use Rattle.lists.proofs.Search.{Falls, Bracket, bracket-up, bracket-down, bracket-end, counted}
-use Rattle.rows.specs.declared.Order.{Order}
-use Rattle.rows.specs.declared.Order.TheVariants.{Less, Equal, Greater}
+use Rattle.std.specs.declared.cmp.Ordering.{Ordering}
+use Rattle.std.specs.declared.cmp.Ordering.TheVariants.{Less, Equal, Greater}
 use Rattle.rows.specs.Rows.{Row, Rows, key, cut, row_order, then_by, is_less, smaller, not_after, rising}
 use Rattle.rows.specs.Ranks.{rank, rank_after, rank_key}
 use Rattle.rows.specs.Words.{row}
@@ -102,7 +102,7 @@ module _ (p : Row → Bool) (w n : ℕ) (s : Words) (f : Falls (λ i. p (get_or 
   rows_end lo hi b h = bracket-end _ n lo hi _ b h (rw (cut-length w n s) at (counted p [] (cut w n s) f))
 
 -- what the answer of `compare` says of a row
-module _ (r q : Row) (o : Order) (e : o ≡ row_order r q) where
+module _ (r q : Row) (o : Ordering) (e : o ≡ row_order r q) where
   ahead-greater : (equal : Bool) → o ≡ Greater → ahead equal r q ≡ true
   unfolding ahead
   ahead-greater true g = T→≡ (not_after q r) (false-after q r (smaller-once q r (greater-smaller r q (sym e ∙ g))))
@@ -120,7 +120,7 @@ module _ (r q : Row) (o : Order) (e : o ≡ row_order r q) where
 
 -- `bound`: a turn by how r stands to row m, and the end
 module _ (equal : Bool) (r : Row) (w n : ℕ) (s : Words) (u : T (rising (cut w n s))) (lo hi : ℕ) (b : Between (ahead equal r) w n s lo hi) where
-  module _ (m : ℕ) (h : lo ≤ m) (l : m < hi) (o : Order) (e : o ≡ row_order r (row w m s)) where
+  module _ (m : ℕ) (h : lo ≤ m) (l : m < hi) (o : Ordering) (e : o ≡ row_order r (row w m s)) where
     up : ahead equal r (row w m s) ≡ true → Between (ahead equal r) w n s (m + 1) hi
     up = rows-up (ahead equal r) w n s (ahead-falls (cut w n s) u equal r) lo hi m b h l
 

@@ -2,8 +2,7 @@
 -- Assumes nothing.
 use Rattle.std.specs.Prelude.{ℕ, cond, ltb}
 use Rattle.lists.specs.Totals.{total, one}
-use Rattle.rows.specs.declared.Found.{Found}
-use Rattle.rows.specs.declared.Found.TheVariants.{At, Missing}
+use Rattle.std.specs.Prelude.{Option, Some, None}
 use Rattle.rows.specs.Rows.{Row, Rows, key, smaller, same_row, not_after, has_row, has_key}
 
 -- how many rows are smaller than r: where r stands among rising rows, or would stand
@@ -23,8 +22,8 @@ unfoldable pub rank_key : ℕ → Rows → ℕ
 rank_key k rows = total (λ q. one (ltb (key q) k)) rows
 
 -- the place of the first row that equals r, and of the first with key k
-unfoldable pub found_row : Row → Rows → Found
-found_row r rows = cond (has_row r rows) (At (rank r rows)) Missing
+unfoldable pub found_row : Row → Rows → Option ℕ
+found_row r rows = cond (has_row r rows) (Some (rank r rows)) None
 
-unfoldable pub found_key : ℕ → Rows → Found
-found_key k rows = cond (has_key k rows) (At (rank_key k rows)) Missing
+unfoldable pub found_key : ℕ → Rows → Option ℕ
+found_key k rows = cond (has_key k rows) (Some (rank_key k rows)) None

@@ -2,8 +2,8 @@
 -- Assumes nothing.
 use Rattle.std.specs.Prelude.{ℕ, zero, suc, Bool, true, false, cond, not, ◌&&◌, List, [], ◌∷◌, map, T, ltb, eqb, length, take, drop}
 use Rattle.lists.specs.Lists.{Words, at, all, any, none_twice, same_lists}
-use Rattle.rows.specs.declared.Order.{Order}
-use Rattle.rows.specs.declared.Order.TheVariants.{Less, Equal, Greater}
+use Rattle.std.specs.declared.cmp.Ordering.{Ordering}
+use Rattle.std.specs.declared.cmp.Ordering.TheVariants.{Less, Equal, Greater}
 
 -- the values of a row's columns, all 64 bits of each, from column 0, the key
 abbrev pub Row : Type 0
@@ -29,23 +29,23 @@ cut w zero ws = []
 cut w (suc k) ws = take w ws ∷ cut w k (drop w ws)
 
 -- how x stands to y
-unfoldable pub word_order : ℕ → ℕ → Order
+unfoldable pub word_order : ℕ → ℕ → Ordering
 word_order x y = cond (ltb x y) Less (cond (ltb y x) Greater Equal)
 
 -- the first, unless it is Equal, and then the second
-unfoldable pub then_by : Order → Order → Order
+unfoldable pub then_by : Ordering → Ordering → Ordering
 then_by Less o = Less
 then_by Equal o = o
 then_by Greater o = Greater
 
 -- "compared column by column from the left"
-unfoldable pub row_order : Row → Row → Order
+unfoldable pub row_order : Row → Row → Ordering
 row_order [] [] = Equal
 row_order [] (y ∷ s) = Less
 row_order (x ∷ r) [] = Greater
 row_order (x ∷ r) (y ∷ s) = then_by (word_order x y) (row_order r s)
 
-unfoldable pub is_less : Order → Bool
+unfoldable pub is_less : Ordering → Bool
 is_less Less = true
 is_less Equal = false
 is_less Greater = false

@@ -8,7 +8,6 @@ ghost use Rattle.rows.specs.Marks.{Run};
 ghost use Rattle.key_order.specs.Orders.{InKeyOrder};
 
 use key_order::{find_in_order, no_key_twice, order_by_key};
-use rows::Found;
 use sorting::{settle, sort_rows};
 
 // A barcode, the one that differs from it in the upper 32 bits alone, that difference, and the greatest word.
@@ -54,10 +53,10 @@ fn say(rt: &impl Print, name: &str, n: u64) {
 }
 
 // Where a row was found; 99 if it is missing.
-fn number(f: Found) -> u64 {
+fn number(f: Option<usize>) -> u64 {
     match f {
-        Found::At(i) => i as u64,
-        Found::Missing => 99,
+        Some(i) => i as u64,
+        None => 99,
     }
 }
 

@@ -10,8 +10,7 @@ use Rattle.lists.specs.Lists.{Words, at}
 use Rattle.lists.proofs.Truth.{T→≡, F→≡, false→F}
 use Rattle.rows.specs.Rows.{Row, Rows, key, pick, rising, has_row, has_key}
 use Rattle.rows.specs.Ranks.{found_key}
-use Rattle.rows.specs.declared.Found.{Found}
-use Rattle.rows.specs.declared.Found.TheVariants.{At, Missing}
+use Rattle.std.specs.Prelude.{Option, Some, None}
 use Rattle.rows.proofs.Ranks.{found-row, missing-row, found-key, missing-key}
 use Rattle.meaning.specs.Sheet.{Sheet, room}
 use Rattle.meaning.specs.Plan.{kept, shown}
@@ -59,12 +58,12 @@ module _ {s : Sheet} {t : ℕ} {ws : Words} (asked : Asked s t ws) where
   rising-side = (sound-get s ws asked.ok).in_order t (omega (arith, asked.there))
 
   -- by a search for the key
-  module _ (r : Row) (f : Found) (is : f ≡ found_key (key r) (rows_at s ws t)) where
-    pub new-missing : f ≡ Missing → true ≡ new_key (model_of s ws) t r
+  module _ (r : Row) (f : Option ℕ) (is : f ≡ found_key (key r) (rows_at s ws t)) where
+    pub new-missing : f ≡ None → true ≡ new_key (model_of s ws) t r
     unfolding new_key
     new-missing e = rw (model-side s ws t asked.there, missing-key (key r) (rows_at s ws t) (sym e ∙ is))
 
-    pub new-at : (i : ℕ) → f ≡ At i → false ≡ new_key (model_of s ws) t r
+    pub new-at : (i : ℕ) → f ≡ Some i → false ≡ new_key (model_of s ws) t r
     unfolding new_key
     new-at i e =
         let has = (found-key (key r) (rows_at s ws t) i rising-side (sym e ∙ is)).has in
@@ -81,12 +80,12 @@ module _ {s : Sheet} {t : ℕ} {ws : Words} (asked : Asked s t ws) where
     old-unqualified r q b is e h = rw (yes, sym is ∙ e) h
 
     -- of a qualified row all shown columns
-    module _ (r : Row) (q : Bool) (is : q ≡ qualifies s (model_of s ws) t r) (e : q ≡ true) (f : Found) (found : f ≡ found_side s ws t r) where
-      pub old-missing : f ≡ Missing → false ≡ old_row s (model_of s ws) t r
+    module _ (r : Row) (q : Bool) (is : q ≡ qualifies s (model_of s ws) t r) (e : q ≡ true) (f : Option ℕ) (found : f ≡ found_side s ws t r) where
+      pub old-missing : f ≡ None → false ≡ old_row s (model_of s ws) t r
       unfolding old_row
       old-missing h = rw (yes, sym is ∙ e, model-side s ws t asked.there, missing-row (pick (shown s t) r) (rows_at s ws t) (sym h ∙ found))
 
-      pub old-at : (i : ℕ) → f ≡ At i → true ≡ old_row s (model_of s ws) t r
+      pub old-at : (i : ℕ) → f ≡ Some i → true ≡ old_row s (model_of s ws) t r
       unfolding old_row
       old-at i h =
           let row = pick (shown s t) r in

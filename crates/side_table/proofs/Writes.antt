@@ -10,8 +10,7 @@ use Rattle.lists.specs.Lists.{Words}
 use Rattle.lists.proofs.Truth.{false→F}
 use Rattle.rows.specs.Rows.{Row, Rows, pick, rising, put_row, put_rows, take_row, take_rows}
 use Rattle.rows.specs.Ranks.{found_row}
-use Rattle.rows.specs.declared.Found.{Found}
-use Rattle.rows.specs.declared.Found.TheVariants.{At, Missing}
+use Rattle.std.specs.Prelude.{Option, Some, None}
 use Rattle.rows.proofs.Ranks.{There, found-row, missing-row}
 use Rattle.rows.proofs.Keys.{Replaced, replace-side}
 use Rattle.meaning.specs.Sheet.{Sheet}
@@ -62,8 +61,8 @@ module _ (s : Sheet) (t : ℕ) (l : t < s.n) (no : T (kept s t) → ⊥) (ws : W
       stays s t (λ (rows : Rows). put_rows (side_row s t new) (take_rows (side_row s t old) rows)) ws l (λ rows. rw (no_row old, no_row new))
 
 -- the row that is replaced stands there
-pub replace-there : (s : Sheet) (ws : Words) (t : ℕ) (old new : Row) → Replaceable s ws t old new → T (kept s t) → (f : Found)
-    → f ≡ found_side s ws t old → f ≡ Missing → ⊥
+pub replace-there : (s : Sheet) (ws : Words) (t : ℕ) (old new : Row) → Replaceable s ws t old new → T (kept s t) → (f : Option ℕ)
+    → f ≡ found_side s ws t old → f ≡ None → ⊥
 replace-there s ws t old new h k f found d = false→F (missing-row (pick (shown s t) old) (rows_at s ws t) (sym d ∙ found)) (h.there k)
 
 -- a kept table's part
@@ -90,7 +89,7 @@ module _ {s : Sheet} {t : ℕ} {q : Part} (side : Side s t q) {ws : Words} (m : 
         (ap (λ (x : Row). take_row x (rows_in q ws)) (side-head side b) ∙ ap (λ (xs : Rows). take_rows xs (rows_in q ws)) (sym (one r)))
 
   -- a row found is replaced where it stands
-  module _ {old new : Row} (h : Replaceable s ws t old new) (f : Found) (found : f ≡ found_side s ws t old) (i : ℕ) (d : f ≡ At i) where
+  module _ {old new : Row} (h : Replaceable s ws t old new) (f : Option ℕ) (found : f ≡ found_side s ws t old) (i : ℕ) (d : f ≡ Some i) where
     up : T (rising (rows_in q ws))
     unfolding rows_in
     up = (side-kept side m).region.up

@@ -4,7 +4,7 @@ use Rattle.std.specs.Prelude.{ℕ, ◌≡◌, Bool, not, ◌||◌, T, ltb, lengt
 use Rattle.lists.specs.Lists.{Words}
 use Rattle.rows.specs.Rows.{Row, Rows, key, pick, has_row, no_key_twice, put_rows, take_rows}
 use Rattle.rows.specs.Ranks.{found_row}
-use Rattle.rows.specs.declared.Found.{Found}
+use Rattle.std.specs.Prelude.{Option}
 use Rattle.meaning.specs.Sheet.{Sheet, room}
 use Rattle.meaning.specs.Plan.{kept, shown}
 use Rattle.meaning.specs.Meaning.{Model}
@@ -17,7 +17,7 @@ pub record Begins (s : Sheet) (t : ℕ) (r row : Row) : Type 0 where
   pub head : take (length (shown s t)) row ≡ pick (shown s t) r
 
 -- where r's shown columns stand in t's side table
-abbrev pub found_side : Sheet → Words → ℕ → Row → Found
+abbrev pub found_side : Sheet → Words → ℕ → Row → Option ℕ
 found_side s ws t r = found_row (pick (shown s t) r) (rows_at s ws t)
 
 -- the store stands for some model

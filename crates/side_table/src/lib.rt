@@ -10,7 +10,6 @@ ghost use Rattle.meaning.specs.Change.{qualifies, new_key, old_row};
 ghost use Rattle.store.specs.Plans.{GoodPlan};
 ghost use Rattle.side_table.specs.Sides.{Begins, found_side, Modelled, has_room, Replaceable, SidePut, SideTaken, SideReplaced};
 
-use rows::Found;
 use sheet::COLUMNS;
 use sheet_plan::Plan;
 
@@ -46,7 +45,7 @@ fn side_words(sheet: &[u64], plan: Plan, t: usize, r: &[u64]) -> [u64; COLUMNS]
 }
 
 // Where r's shown columns stand in the kept side table of t.
-fn find_side(sheet: &[u64], plan: Plan, store: &[u64], t: usize, r: &[u64]) -> Found
+fn find_side(sheet: &[u64], plan: Plan, store: &[u64], t: usize, r: &[u64]) -> Option<usize>
     requires good_plan { GoodPlan (sheet_of sheet.now) plan }
     requires t_bound { t < (sheet_of sheet.now).n }
     requires r_len { length r.now ≡ width (sheet_of sheet.now) t }
@@ -73,7 +72,7 @@ pub fn new_key(sheet: &[u64], plan: Plan, store: &[u64], t: usize, r: &[u64]) ->
     }
     let p = store::part_of(plan, t);
     let f = store::find_key(store, p, r[0]);
-    let Found::Missing = f else {
+    let None = f else {
         return false;
     };
     true
@@ -102,7 +101,7 @@ pub fn old_row(
         return new_key(sheet, plan, store, t, r);
     }
     let f = find_side(sheet, plan, store, t, r);
-    let Found::Missing = f else {
+    let None = f else {
         return true;
     };
     false
@@ -179,7 +178,7 @@ pub fn replace_side(
         return;
     }
     let f = find_side(sheet, plan, store, t, old);
-    let Found::At(at) = f else {
+    let Some(at) = f else {
         return;
     };
     let p = store::part_of(plan, t);

@@ -12,7 +12,6 @@ ghost use Rattle.store.specs.Parts.{count_in, rows_in, sound_in, Within, Kept, W
 ghost use Rattle.store.specs.Shows.{no_stretch, Stands, HandsBack};
 ghost use Rattle.store.specs.Plans.{OfSheet, part_at, part_of, SidesIs, SoundIs};
 
-use rows::Found;
 use sheet::{PARTS, TABLES, Verdict};
 use sheet_plan::Plan;
 
@@ -211,7 +210,7 @@ pub fn show<'a>(sheet: &[u64], store: &'a [u64], number: u64, refusal: &mut u64)
 }
 
 // Where the row with this key stands in a side table's part.
-pub fn find_key(store: &[u64], p: Part, key: u64) -> Found
+pub fn find_key(store: &[u64], p: Part, key: u64) -> Option<usize>
     requires kept { Kept p store.now }
     requires columns_nonzero { 0 < p.columns }
     ensures { result ≡ found_key key (rows_in p store.now) }
@@ -224,7 +223,7 @@ pub fn find_key(store: &[u64], p: Part, key: u64) -> Found
 }
 
 // Where the first row that equals r stands in the part.
-pub fn find_row(store: &[u64], p: Part, r: &[u64]) -> Found
+pub fn find_row(store: &[u64], p: Part, r: &[u64]) -> Option<usize>
     requires kept { Kept p store.now }
     requires r_len { length r.now ≡ p.columns }
     ensures { result ≡ found_row r.now (rows_in p store.now) }

@@ -35,4 +35,4 @@ pub returns : goal.returns
 returns c =
     let side = side-marked _ _ c.requires.good_plan _ c.requires.t_bound c.if-plan-t-eq0.false _ c.part_of-p.ensures in
     let found = c.find_key-f.ensures ∙ ap (found_key _) (side-rows side _) in
-    new-missing (asked-planned c.requires.good_plan c.requires.t_bound c.requires.t) c.args.r.now _ found c.in-Missing.is
+    new-missing (asked-planned c.requires.good_plan c.requires.t_bound c.requires.t) c.args.r.now _ found c.in-None.is

@@ -35,4 +35,4 @@ pub returns : goal.returns
 returns c =
     let k = marked _ _ c.requires.good_plan _ c.requires.t_bound c.if-plan-t-eq0.false in
     let asked = asked-planned c.requires.good_plan c.requires.t_bound c.requires.t in
-    old-missing asked k _ _ c.requires.qualified_value c.if-not-qualified.false _ c.find_side-f.ensures c.in-Missing.is
+    old-missing asked k _ _ c.requires.qualified_value c.if-not-qualified.false _ c.find_side-f.ensures c.in-None.is

@@ -50,13 +50,13 @@ replace_row-requires c =
     let side = side-marked _ _ c.requires.good_plan _ c.requires.t_bound c.if-plan-t-eq0.false _ c.part_of-p.ensures in
     record {
       kept = side-kept side c.requires.modelled;
-      at_bound = replace-below side c.requires.modelled c.requires.replaceable _ c.find_side-f.ensures _ c.in-At.is;
+      at_bound = replace-below side c.requires.modelled c.requires.replaceable _ c.find_side-f.ensures _ c.in-Some.is;
       r_len = side-long side c.side_words-row.ensures;
-      t = replace-up side c.requires.modelled c.requires.replaceable _ c.find_side-f.ensures _ c.in-At.is c.side_words-row.ensures;
+      t = replace-up side c.requires.modelled c.requires.replaceable _ c.find_side-f.ensures _ c.in-Some.is c.side_words-row.ensures;
     }
 
 pub returns : goal.returns
 returns c =
     let side = side-marked _ _ c.requires.good_plan _ c.requires.t_bound c.if-plan-t-eq0.false _ c.part_of-p.ensures in
-    replace-kept side c.requires.modelled c.requires.replaceable _ c.find_side-f.ensures _ c.in-At.is
+    replace-kept side c.requires.modelled c.requires.replaceable _ c.find_side-f.ensures _ c.in-Some.is
     c.side_words-row.ensures _ c.replace_row.ensures
