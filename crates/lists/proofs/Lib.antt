@@ -5,3 +5,4 @@ pub mod Loops
 pub mod Parts
 pub mod Rises
 pub mod Search
+pub mod Chains

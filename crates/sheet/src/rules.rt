@@ -104,16 +104,7 @@ fn edges_ok(sheet: &[u64]) -> bool
     requires { Counts sheet.now }
     ensures { result ≡ every (edge_passes sheet.now) (edge_count sheet.now) }
 {
-    let e = edges(sheet);
-    let mut k = 0;
-    while k < e {
-        if edge_ok(sheet, k) {
-            k += 1;
-        } else {
-            return false;
-        }
-    }
-    true
+    (0..edges(sheet)).all(|k| edge_ok(sheet, k))
 }
 
 fn condition_ok(sheet: &[u64], k: usize) -> bool
