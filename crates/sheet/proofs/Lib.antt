@@ -1,3 +1,4 @@
+pub mod Chains
 pub mod Numbers
 pub mod Words
 pub mod Facts
