@@ -1,13 +1,12 @@
 -- Refusals 5 and 6 by number: what a change asks, against the sheet alone.
 -- Assumes nothing.
-use Rattle.std.specs.Prelude.{ℕ, Bool, cond, not, ◌&&◌, ◌||◌, eqb, length}
+use Rattle.std.specs.Prelude.{ℕ, Bool, cond, not, ◌&&◌, ◌||◌, Result, Ok, Err, ⊤, eqb, length}
 use Rattle.lists.specs.Lists.{Words, at}
 use Rattle.lists.specs.Loops.{every}
 use Rattle.rows.specs.Rows.{Row, key}
 use Rattle.meaning.specs.Sheet.{sheet_of}
 use Rattle.meaning.specs.Base.{Change, good_change, tied, tied_stay}
 use Rattle.sheet.specs.Numbered.{condition_no}
-use Rattle.std.specs.Prelude.{Result, Ok, Err, ⊤}
 use Rattle.sheet.specs.declared.refusal.Refusal.{Refusal}
 use Rattle.sheet.specs.declared.refusal.Refusal.TheVariants.{BadRequest, AltersTied}
 
@@ -29,7 +28,8 @@ one_row unused row w = cond (eqb unused 0 && eqb row w) (Ok tt) (Err BadRequest)
 
 unfoldable pub two_rows : Words → ℕ → Row → Row → ℕ → Result ⊤ Refusal
 two_rows ws t r r' w =
-    cond (eqb (length r) w && eqb (length r') w && eqb (key r) (key r')) (cond (every (stays_at ws t r r') (length r)) (Ok tt) (Err AltersTied)) (Err BadRequest)
+    cond (eqb (length r) w && eqb (length r') w && eqb (key r) (key r'))
+    (cond (every (stays_at ws t r r') (length r)) (Ok tt) (Err AltersTied)) (Err BadRequest)
 
 -- tests 5 and 6
 unfoldable pub asked_of : Words → Change → Result ⊤ Refusal
