@@ -9,7 +9,7 @@ ghost use Rattle.sheet.specs.Rules.{Counts};
 ghost use Rattle.sheet.specs.Tree.{GoodSheet};
 ghost use Rattle.change_asked.specs.Asked.{condition_on, tied_no, stays_at, one_row, two_rows, asked_of};
 
-use sheet::Verdict;
+use sheet::Refusal;
 
 // Whether a condition speaks of column c of table t.
 fn in_condition(sheet: &[u64], t: usize, c: usize) -> bool
@@ -61,46 +61,46 @@ fn tied_stay(sheet: &[u64], t: usize, old: &[u64], new: &[u64]) -> bool
 }
 
 // An insert's or a delete's rows: one of the table's width, and the unused one has length 0.
-fn one_row(unused: &[u64], row: &[u64], w: usize) -> Verdict
+fn one_row(unused: &[u64], row: &[u64], w: usize) -> Result<(), Refusal>
     ensures { result ≡ one_row (length unused.now) (length row.now) w }
 {
     if unused.len() != 0 {
-        return Verdict::Refused(5);
+        return Err(Refusal::BadRequest);
     }
     if row.len() != w {
-        return Verdict::Refused(5);
+        return Err(Refusal::BadRequest);
     }
-    Verdict::Good
+    Ok(())
 }
 
 // An update's rows: both of the table's width, with one key, and no tied column altered.
-fn two_rows(sheet: &[u64], t: usize, old: &[u64], new: &[u64], w: usize) -> Verdict
+fn two_rows(sheet: &[u64], t: usize, old: &[u64], new: &[u64], w: usize) -> Result<(), Refusal>
     requires counts { Counts sheet.now }
     requires le_w { 1 ≤ w }
     ensures { result ≡ two_rows sheet.now t old.now new.now w }
 {
     if old.len() != w {
-        return Verdict::Refused(5);
+        return Err(Refusal::BadRequest);
     }
     if new.len() != w {
-        return Verdict::Refused(5);
+        return Err(Refusal::BadRequest);
     }
     if old[0] != new[0] {
-        return Verdict::Refused(5);
+        return Err(Refusal::BadRequest);
     }
     if !tied_stay(sheet, t, old, new) {
-        return Verdict::Refused(6);
+        return Err(Refusal::AltersTied);
     }
-    Verdict::Good
+    Ok(())
 }
 
 // The verdict on a change before the store is read.
-pub fn asked(sheet: &[u64], kind: u64, table: u64, old: &[u64], new: &[u64]) -> Verdict
+pub fn asked(sheet: &[u64], kind: u64, table: u64, old: &[u64], new: &[u64]) -> Result<(), Refusal>
     requires { GoodSheet sheet.now }
     ensures { result ≡ asked_of sheet.now (change_of kind table old.now new.now) }
 {
     if sheet::tables(sheet) as u64 <= table {
-        return Verdict::Refused(5);
+        return Err(Refusal::BadRequest);
     }
     let t = table as usize;
     let w = sheet::width_no(sheet, t);
@@ -108,6 +108,6 @@ pub fn asked(sheet: &[u64], kind: u64, table: u64, old: &[u64], new: &[u64]) -> 
         1 => one_row(old, new, w),
         2 => one_row(new, old, w),
         3 => two_rows(sheet, t, old, new, w),
-        0 | 4..=u64::MAX => Verdict::Refused(5),
+        0 | 4..=u64::MAX => Err(Refusal::BadRequest),
     }
 }

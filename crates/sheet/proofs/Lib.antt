@@ -5,3 +5,4 @@ pub mod Facts
 pub mod Steps
 pub mod Into
 pub mod Good
+pub mod Refusals

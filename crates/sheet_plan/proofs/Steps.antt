@@ -14,15 +14,11 @@ use Rattle.meaning.specs.Sheet.{sheet_of, table_count}
 use Rattle.meaning.specs.Plan.{start, store_length}
 use Rattle.meaning.specs.Plan as Meant
 use Rattle.sheet.specs.Rules.{Rules}
-use Rattle.sheet.specs.Verdicts.{verdict_of}
-use Rattle.sheet.specs.declared.Verdict.{Verdict}
-use Rattle.sheet.specs.declared.Verdict.TheVariants.{Good, Refused}
 use Rattle.sheet.proofs.Words.{n-is}
 use Rattle.sheet_plan.specs.Marks.{has_mark, lists_of, places_of}
 use Rattle.sheet_plan.specs.Orders.{order_of}
-use Rattle.sheet_plan.specs.Plans.{kept_of, shows_of, columns_of, rooms_of, starts_of, plan_for, empty_plan, checked_of}
+use Rattle.sheet_plan.specs.Plans.{kept_of, shows_of, columns_of, rooms_of, starts_of, plan_for}
 use Rattle.sheet_plan.specs.declared.Plan.{Plan}
-use Rattle.sheet_plan.specs.declared.Checked.{Checked}
 use Rattle.sheet_plan.proofs.Shown.{lists-shown}
 use Rattle.sheet_plan.proofs.Sizes.{starts-read}
 
@@ -81,14 +77,3 @@ plan-made ws r tables root kept shows shown columns rooms starts order places t 
     let n = n-is ws in
     let b = starts-read (sheet_of ws) (omega (arith, r.counts.tables-few)) ((sheet_of ws).n + 1) (omega arith) in
     cc
-
--- the two outcomes of the check
-pub check-refused : (ws : Words) (v : Verdict) (k : ℕ) (p : Plan) → v ≡ verdict_of ws → v ≡ Refused k → p ≡ empty_plan
-    → ◌≡◌ {A = Checked} (record { verdict = v; plan = p }) (checked_of ws)
-unfolding checked_of
-check-refused ws v k p e r q = rw (← e, r, q)
-
-pub check-good : (ws : Words) (v : Verdict) (p : Plan) → v ≡ verdict_of ws → v ≡ Good → p ≡ plan_for (sheet_of ws)
-    → ◌≡◌ {A = Checked} (record { verdict = v; plan = p }) (checked_of ws)
-unfolding checked_of
-check-good ws v p e r q = rw (← e, r, q)

@@ -1,4 +1,4 @@
-// The plan of a good sheet: what the calls need of it, as arrays table by table, beside the verdict.
+// The plan of a good sheet: what the calls need of it, as arrays table by table; or the refusal of one that is not.
 #![tactic(auto)]
 
 mod marks;
@@ -11,12 +11,12 @@ ghost use Rattle.meaning.specs.Plan.{columns, size};
 ghost use Rattle.sheet.specs.Rules.{Counts, Rules};
 ghost use Rattle.sheet.specs.Tree.{GoodSheet};
 ghost use Rattle.sheet_plan.specs.Marked.{marked_by, key_place, edge_place, listing_place};
-ghost use Rattle.sheet_plan.specs.Plans.{kept_of, shows_of, columns_of, rooms_of, starts_of, plan_for, empty_plan, checked_of};
+ghost use Rattle.sheet_plan.specs.Plans.{kept_of, shows_of, columns_of, rooms_of, starts_of, plan_for, checked_of};
 
 pub use marks::mark_of;
 use marks::{lay_rows, marks_before};
 use outward::order_of;
-use sheet::{COLUMNS, PARTS, PLACES, TABLES, Verdict};
+use sheet::{COLUMNS, PARTS, PLACES, Refusal, TABLES};
 
 // Part t is table t's, part n (tables) the list's. Column sets have eight places for each table, from 8t on.
 #[derive(Clone, Copy)]
@@ -40,12 +40,6 @@ pub struct Plan {
     pub order: [usize; TABLES],
     // the place at 8t + c that column c has among those that table t's side table shows
     pub places: [usize; PLACES],
-}
-
-#[derive(Clone, Copy)]
-pub struct Checked {
-    pub verdict: Verdict,
-    pub plan: Plan,
 }
 
 fn kept_marks(sheet: &[u64]) -> [u64; TABLES]
@@ -225,39 +219,10 @@ fn plan_for(sheet: &[u64]) -> Plan
     }
 }
 
-fn empty_plan() -> Plan
-    ensures { result ≡ empty_plan }
-{
-    Plan {
-        tables: 0,
-        root: 0,
-        store: 0,
-        kept: [0u64; TABLES],
-        shows: [0u64; PLACES],
-        shown: [0usize; PLACES],
-        columns: [0usize; PARTS],
-        rooms: [0usize; PARTS],
-        starts: [0usize; PARTS + 1],
-        order: [0usize; TABLES],
-        places: [0usize; PLACES],
-    }
-}
-
-// The verdict on a sheet, and beside it the plan: all zero where the sheet is refused.
-pub fn check(sheet: &[u64]) -> Checked
+// The plan of a sheet, if it is not refused.
+pub fn check(sheet: &[u64]) -> Result<Plan, Refusal>
     ensures { result ≡ checked_of sheet.now }
 {
-    let v = sheet::verdict_of(sheet);
-    let Verdict::Good = v else {
-        let p = empty_plan();
-        return Checked {
-            verdict: v,
-            plan: p,
-        };
-    };
-    let p = plan_for(sheet);
-    Checked {
-        verdict: v,
-        plan: p,
-    }
+    sheet::verdict_of(sheet)?;
+    Ok(plan_for(sheet))
 }

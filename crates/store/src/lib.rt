@@ -9,17 +9,17 @@ ghost use Rattle.rows.specs.Marks.{spared, is_marked, Numbers, Run, Marking};
 ghost use Rattle.meaning.specs.Limits.{most_tables};
 ghost use Rattle.store.specs.Tests.{absent_zero};
 ghost use Rattle.store.specs.Parts.{count_in, rows_in, sound_in, Within, Kept, Wrote};
-ghost use Rattle.store.specs.Shows.{no_stretch, Stands, HandsBack};
+ghost use Rattle.store.specs.Shows.{Stands, HandsBack};
 ghost use Rattle.store.specs.Plans.{OfSheet, part_at, part_of, SidesIs, SoundIs};
 
-use sheet::{PARTS, TABLES, Verdict};
+use sheet::{PARTS, Refusal, TABLES};
 use sheet_plan::Plan;
 
-// What fill and change answer: rows taken from the list and rows added to it, or the number of the refusal.
-#[derive(Clone, Copy)]
-pub enum Answer {
-    Done(u64, u64),
-    Refused(u64),
+// What an accepted call did to the list: how many rows it took from it, and how many it added.
+#[derive(Clone, Copy, PartialEq, Eq, Debug)]
+pub struct Done {
+    pub taken: u64,
+    pub added: u64,
 }
 
 // Where a part of the store lies: the place of its count, of its first word, its columns and its room.
@@ -31,10 +31,9 @@ pub struct Part {
     pub room: usize,
 }
 
-// Where the rows stand that a show call hands back: their first word, and how many words they are; and the refusal's number, 0 if there is none.
-#[derive(Clone, Copy)]
+// Where the rows stand that a show call hands back: their first word, and how many words they are.
+#[derive(Clone, Copy, PartialEq, Eq, Debug, Default)]
 pub struct Stretch {
-    pub refusal: u64,
     pub first: usize,
     pub count: usize,
 }
@@ -157,56 +156,38 @@ pub fn is_sound(plan: Plan, store: &[u64]) -> bool
     part_sound(store, p, false)
 }
 
-// A refusal's: no words, from the first on.
-fn no_stretch(refusal: u64) -> Stretch
-    ensures { result ≡ no_stretch refusal }
-{
-    Stretch {
-        refusal: refusal,
-        first: 0,
-        count: 0,
-    }
-}
-
-// Where the rows of part `number` stand, a table's or at n the list's: none for an unkept table, and none from the first word on in a refusal.
-pub fn find_stretch(sheet: &[u64], store: &[u64], number: u64) -> Stretch
+// Where the rows of part `number` stand, a table's or at n the list's: none for an unkept table.
+pub fn find_stretch(sheet: &[u64], store: &[u64], number: u64) -> Result<Stretch, Refusal>
     ensures { Stands sheet.now store.now number result }
 {
-    let checked = sheet_plan::check(sheet);
-    let v = checked.verdict;
-    let plan = checked.plan;
-    let Verdict::Good = v else {
-        return no_stretch(sheet::number_of(v));
-    };
+    let plan = sheet_plan::check(sheet)?;
     if store.len() != plan.store {
-        return no_stretch(4);
+        return Err(Refusal::WrongLength);
     }
     let n = plan.tables as u64;
     if n < number {
-        return no_stretch(5);
+        return Err(Refusal::BadRequest);
     }
     if !is_sound(plan, store) {
-        return no_stretch(7);
+        return Err(Refusal::NotSound);
     }
     let p = part_of(plan, number as usize);
     let slot = p.slot;
     let count = store[slot] as usize;
-    Stretch {
-        refusal: 0,
+    Ok(Stretch {
         first: p.start,
         count: count * p.columns,
-    }
+    })
 }
 
-// The rows of part `number`: the stretch of the store that holds them. A refusal's number goes into the lent word, 0 if there is none.
-pub fn show<'a>(sheet: &[u64], store: &'a [u64], number: u64, refusal: &mut u64) -> &'a [u64]
-    ensures { HandsBack sheet.now store.entry number result refusal.new }
+// The rows of part `number`: the stretch of the store that holds them.
+pub fn show<'a>(sheet: &[u64], store: &'a [u64], number: u64) -> Result<&'a [u64], Refusal>
+    ensures { HandsBack sheet.now store.entry number result }
 {
-    let s = find_stretch(sheet, store, number);
-    *refusal = s.refusal;
+    let s = find_stretch(sheet, store, number)?;
     let from = s.first;
     let to = from + s.count;
-    &store[from..to]
+    Ok(&store[from..to])
 }
 
 // Where the row with this key stands in a side table's part.
