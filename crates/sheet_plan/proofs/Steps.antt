@@ -1,7 +1,7 @@
 -- The ways through the functions that fill the arrays, said of words and numbers.
 -- Assumes nothing.
 use Prim.Native.Nat.{ℕ, ◌+◌, ◌*◌, ◌≤◌}
-use mathlib.Core.Path.{◌≡◌, sym, ap, ◌∙◌}
+use mathlib.Core.Path.{◌≡◌, ap, ◌∙◌}
 use mathlib.Core.Bool.{true, false}
 use mathlib.Core.List.{List}
 use native.Mathlib.Omega.{arith}
@@ -9,7 +9,7 @@ use lib.ListN.{get_or, set, replicate}
 use borrow.Author.Tests.{eq-eqb, ne_eqb}
 use Rattle.lists.specs.Lists.{Words}
 use Rattle.lists.specs.Loops.{filled}
-use Rattle.lists.proofs.Loops.{filled_more, filled-end}
+use Rattle.lists.proofs.Loops.{filled_more}
 use Rattle.meaning.specs.Sheet.{sheet_of, table_count}
 use Rattle.meaning.specs.Plan.{start, store_length}
 use Rattle.meaning.specs.Plan as Meant
@@ -21,14 +21,6 @@ use Rattle.sheet_plan.specs.Plans.{kept_of, shows_of, columns_of, rooms_of, star
 use Rattle.sheet_plan.specs.declared.Plan.{Plan}
 use Rattle.sheet_plan.proofs.Shown.{lists-shown}
 use Rattle.sheet_plan.proofs.Sizes.{starts-read}
-
--- a loop over the tables, or over the parts, has come to its end
-pub tables_end : (f : ℕ → ℕ) (ws : Words) (k : ℕ) (d a : List ℕ) → k ≤ table_count ws → table_count ws ≤ k → a ≡ filled f k d → a ≡ filled f (sheet_of ws).n d
-tables_end f ws k d a h l e = filled-end f k (table_count ws) d a h l e ∙ ap (λ (n : ℕ). filled f n d) (sym (n-is ws))
-
-pub parts-end : (f : ℕ → ℕ) (ws : Words) (k : ℕ) (d a : List ℕ) → k ≤ table_count ws + 1 → table_count ws + 1 ≤ k
-    → a ≡ filled f k d → a ≡ filled f ((sheet_of ws).n + 1) d
-parts-end f ws k d a h l e = filled-end f k (table_count ws + 1) d a h l e ∙ ap (λ (n : ℕ). filled f (n + 1) d) (sym (n-is ws))
 
 -- where the loop over the parts has come to, behind the list, the store ends
 pub starts-filled : (ws : Words) (k m end : ℕ) (r : List ℕ) → m ≡ table_count ws + 1 → k ≤ m → m ≤ k → r ≡ filled (start (sheet_of ws)) k (replicate 10 0)
