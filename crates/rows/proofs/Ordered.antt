@@ -2,7 +2,7 @@
 -- Assumes nothing.
 use Prim.Native.Nat.{ℕ, ◌<◌, ◌≤◌}
 use mathlib.Core.Path.{◌≡◌, refl, sym, ap, ap₂, ◌∙◌, subst}
-use mathlib.Core.Bool.{Bool, true, false, true≢false, false≢true}
+use mathlib.Core.Bool.{Bool, true, false, not, true≢false, false≢true}
 use mathlib.Core.List.{[], ◌∷◌}
 use mathlib.Core.Logic.{◌⊎◌, inl, inr, ⊎_elim}
 use native.Mathlib.Omega.{arith}
@@ -11,6 +11,7 @@ use borrow.Author.Tests.{ltb-true, ltb-false, lt-ltb, le-ltb, eq-eqb, not-true}
 use Rattle.lists.proofs.Truth.{is_t, T→≡, F→≡, and-fst, and-snd}
 use Rattle.std.specs.declared.cmp.Ordering.{Ordering}
 use Rattle.std.specs.declared.cmp.Ordering.TheVariants.{Less, Equal, Greater}
+use Rattle.std.specs.Ordering.{is_eq, is_gt, is_ge}
 use Rattle.rows.specs.Rows.{Row, word_order, then_by, row_order, is_less, smaller, same_row, not_after}
 
 -- Words
@@ -227,3 +228,29 @@ antisym r s h k = neither-smaller r s (after-false s r k) (after-false r s h)
 
 pub itself : (r : Row) → T (not_after r r)
 itself r = false-after r r (smaller-itself r)
+
+-- What the tests of an answer of `row_order` say
+module _ (r q : Row) where
+  pub behind-is : is_gt (row_order r q) ≡ smaller q r
+  behind-is = go (row_order r q) refl
+    where
+      go : (o : Ordering) → row_order r q ≡ o → is_gt o ≡ smaller q r
+      go Less e = sym (less-not-smaller r q e)
+      go Equal e = sym (equal-not-smaller r q e)
+      go Greater e = sym (greater-smaller r q e)
+
+  pub not-before-is : is_ge (row_order r q) ≡ not_after q r
+  not-before-is = go (row_order r q) refl
+    where
+      go : (o : Ordering) → row_order r q ≡ o → is_ge o ≡ not_after q r
+      go Less e = ap not (sym (less-smaller r q e))
+      go Equal e = sym (subst (λ (x : Row). not_after x r ≡ true) (order-equal r q e) (T→≡ (not_after r r) (itself r)))
+      go Greater e = ap not (sym (smaller-once q r (greater-smaller r q e)))
+
+  pub same-is : is_eq (row_order r q) ≡ same_row r q
+  same-is = go (row_order r q) refl
+    where
+      go : (o : Ordering) → row_order r q ≡ o → is_eq o ≡ same_row r q
+      go Less e = sym (order-less-differs r q e)
+      go Equal e = sym (order_same r q e)
+      go Greater e = sym (order-greater-differs r q e)
