@@ -6,3 +6,4 @@ pub mod Entries
 pub mod Tests
 pub mod Laddering
 pub mod Routes
+pub mod Trails
