@@ -6,8 +6,8 @@ ghost use Rattle.meaning.specs.Sheet.{sheet_of, listed_count};
 ghost use Rattle.sheet.specs.Rules.{Rules};
 ghost use Rattle.list_part.specs.Gives.{row_shows, row_with, row_given, given, turn_of, Fits};
 
-use std::cmp::Ordering;
 use sheet::LISTED;
+use std::cmp::Ordering;
 
 // Whether row i of s shows r's values in table t's columns.
 pub fn shows_row(sheet: &[u64], s: &[u64], i: usize, t: usize, r: &[u64]) -> bool

@@ -5,5 +5,5 @@ pub mod Treks
 pub mod Entries
 pub mod Tests
 pub mod Laddering
-pub mod Trails
 pub mod Routes
+pub mod Trails
