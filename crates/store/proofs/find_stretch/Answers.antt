@@ -34,21 +34,17 @@ part_of-p-requires c =
       tables_le_most_tables = few _ (check-of _ _ c.in_ok-plan.ensures);
     }
 
-pub offset_bounds-store-slot : goal.offset_bounds-store-slot
-offset_bounds-store-slot c =
-    omega (arith, within-store _ (check-of _ _ c.in_ok-plan.ensures) _ _ _ c.if-n-number.false c.part_of-p.ensures c.if-store-plan.false)
-
-pub bounds-store-slot : goal.bounds-store-slot
-bounds-store-slot c =
-    omega (arith, within-store _ (check-of _ _ c.in_ok-plan.ensures) _ _ _ c.if-n-number.false c.part_of-p.ensures c.if-store-plan.false)
+pub count-requires : goal.count-requires
+count-requires c = within-store _ (check-of _ _ c.in_ok-plan.ensures) _ _ _ c.if-n-number.false c.part_of-p.ensures c.if-store-plan.false
 
 pub overflow_mul-result : goal.overflow_mul-result
 overflow_mul-result c =
     let shown = show-part _ _ _ _ c.in_ok-plan.ensures c.if-store-plan.false c.if-n-number.false _
     c.is_sound.ensures c.if-not-is_sound.false _ c.part_of-p.ensures in
-    omega (arith, stretch-ends _ _ shown.kept)
+    rw c.count.ensures (omega (arith, stretch-ends _ _ shown.kept))
 
 pub returns : goal.returns
 returns c =
-    part-stands _ _ _ _ (show-part _ _ _ _ c.in_ok-plan.ensures c.if-store-plan.false c.if-n-number.false _
-    c.is_sound.ensures c.if-not-is_sound.false _ c.part_of-p.ensures)
+    rw c.count.ensures
+    (part-stands _ _ _ _ (show-part _ _ _ _ c.in_ok-plan.ensures c.if-store-plan.false c.if-n-number.false _
+    c.is_sound.ensures c.if-not-is_sound.false _ c.part_of-p.ensures))
