@@ -16,18 +16,10 @@ fn in_condition(sheet: &[u64], t: usize, c: usize) -> bool
     requires { Counts sheet.now }
     ensures { result ≡ some (condition_on sheet.now t c) (condition_count sheet.now) }
 {
-    let many = sheet::conditions(sheet);
-    let mut k = 0;
-    while k < many {
+    (0..sheet::conditions(sheet)).any(|k| {
         let condition = sheet::condition_no(sheet, k);
-        k += 1;
-        if condition.table == t {
-            if condition.column == c {
-                return true;
-            }
-        }
-    }
-    false
+        condition.table == t && condition.column == c
+    })
 }
 
 // Whether column c of table t is tied: in a condition, or the child column of an edge.
@@ -35,10 +27,7 @@ pub fn is_tied(sheet: &[u64], t: usize, c: usize) -> bool
     requires { Counts sheet.now }
     ensures { result ≡ tied_no sheet.now t c }
 {
-    if in_condition(sheet, t, c) {
-        return true;
-    }
-    derive::is_child_column(sheet, t, c)
+    in_condition(sheet, t, c) || derive::is_child_column(sheet, t, c)
 }
 
 // Whether no tied column of table t differs between the two rows.
@@ -47,17 +36,7 @@ fn tied_stay(sheet: &[u64], t: usize, old: &[u64], new: &[u64]) -> bool
     requires len { length old.now ≡ length new.now }
     ensures { result ≡ every (stays_at sheet.now t old.now new.now) (length old.now) }
 {
-    let mut k = 0;
-    while k < old.len() {
-        let c = k;
-        k += 1;
-        if old[c] != new[c] {
-            if is_tied(sheet, t, c) {
-                return false;
-            }
-        }
-    }
-    true
+    (0..old.len()).all(|c| old[c] == new[c] || !is_tied(sheet, t, c))
 }
 
 // An insert's or a delete's rows: one of the table's width, and the unused one has length 0.

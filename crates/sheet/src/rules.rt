@@ -14,13 +14,10 @@ use crate::reading::{
 pub fn counts_ok(sheet: &[u64]) -> bool
     ensures { result ≡ good_counts sheet.now }
 {
-    if sheet.len() < 4 {
+    let &[n, e, c, p, ..] = sheet else {
         return false;
-    }
-    let n = sheet[0] as usize;
-    let e = sheet[1] as usize;
-    let c = sheet[2] as usize;
-    let p = sheet[3] as usize;
+    };
+    let (n, e, c, p) = (n as usize, e as usize, c as usize, p as usize);
     (1..=TABLES).contains(&n)
         && e == n - 1
         && c <= CONDITIONS

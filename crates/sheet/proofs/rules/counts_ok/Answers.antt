@@ -7,8 +7,8 @@ use Rattle.sheet.proofs.Facts.{counts-facts}
 use Rattle.meaning.specs.Sheet.{good_counts}
 use Rattle.sheet.proofs.rules.counts_ok.Goals as goal
 
-pub returns-then-sheet-lt4 : goal.returns-then-sheet-lt4
-returns-then-sheet-lt4 c = no _ (λ h. let f = counts-facts _ h in omega arith)
+pub returns-in_default : goal.returns-in_default
+returns-in_default c = no _ (λ h. let f = counts-facts _ h in omega arith)
 
 pub returns-then-contains-2 : goal.returns-then-contains-2
 unfolding good_counts
