@@ -26,11 +26,13 @@ use Rattle.change_asked.specs.Asked.{asked_of}
 use Rattle.change_asked.proofs.Tests.{asked-good, no_kind}
 use Rattle.sheet_plan.specs.declared.Plan.{Plan}
 use Rattle.walk.specs.Grounds.{Lent}
-use Rattle.store.specs.declared.Answer.{Answer}
 use Rattle.store.specs.Answers.{Says}
 use Rattle.effects.specs.Applied.{applied}
 use Rattle.change_laws.specs.Ready.{Ready}
 use Rattle.change_apply.specs.Applies.{Applies}
+use Rattle.std.specs.Prelude.{Result}
+use Rattle.sheet.specs.declared.refusal.Refusal.{Refusal}
+use Rattle.store.specs.declared.Done.{Done}
 
 -- The row of an insert, of a delete, the rows of an update
 module _ (ws : Words) (t : ℕ) (r r' : Row) where
@@ -106,7 +108,7 @@ module _ (ws : Words) (kind t : ℕ) (r r' : Row) (h : asked_of ws (change_of ki
   pub no_other : (kind ≡ 1 → ⊥) → (kind ≡ 2 → ⊥) → (kind ≡ 3 → ⊥) → ⊥
   no_other a b c = let e = no_kind ws kind t r r' a b c ∙ h in let q : ◌≡◌ {A = ℕ} 0 1 = cc in omega arith
 
-  module _ (store : Words) (plan : Plan) (ready : Ready ws store plan) (a : Answer) (exit : Words) where
+  module _ (store : Words) (plan : Plan) (ready : Ready ws store plan) (a : Result Done Refusal) (exit : Words) where
     pub applies : (k : ℕ) → kind ≡ k → Says (applied (sheet_of ws) store (change_of k t r r')) a exit → Applies ws store (change_of kind t r r') a exit
     applies k e x =
         record {
