@@ -32,7 +32,7 @@ use Rattle.sheet_plan.proofs.Planning.{plan-facts, checked-zero, checked-is, che
 use Rattle.std.specs.Prelude.{Result, Ok, Err}
 use Rattle.sheet.proofs.Good.{good-sheet, good-rules}
 use Rattle.sheet.specs.declared.refusal.Refusal.{Refusal}
-use Rattle.sheet.specs.Refusals.{refusal_number}
+use Rattle.sheet.specs.Refusals.{refusal_number, number_of}
 use Rattle.sheet.proofs.Refusals.{never-zero, of-number}
 use Rattle.sheet_plan.specs.declared.Plan.{Plan}
 use Rattle.plan_answer.specs.Answers.{no_table, table_no, sets_of, per_table, laid_out, answer_of, dep_at, dep_of, need_at, need_of}
@@ -179,6 +179,24 @@ module _ (ws : Words) where
   answer-refused r h =
       let is : plan ws ≡ no_plan (refusal_number r) = unfold plan in rw (h, ne_eqb (refusal_number r) 0 (never-zero r)) in
       rw is (rw (ne_eqb (refusal_number r) 0 (never-zero r), of-number r))
+
+  -- its number is the refusal's, and 0 where there is a plan
+  pub planned-number : number_of (answer_of (plan ws)) ≡ sheet_refusal ws
+  planned-number = go (checked_of ws) refl
+    where
+      go : (v : Result Plan Refusal) → v ≡ checked_of ws → number_of (answer_of (plan ws)) ≡ sheet_refusal ws
+      go (Ok p) e = let zero = checked-zero ws p e in ap number_of (sym (answer-good zero)) ∙ sym zero
+      go (Err r) e = let is = checked-is ws r e in ap number_of (sym (answer-refused r is)) ∙ sym is
+
+  module _ (a : PlanAnswer) (e : Ok a ≡ answer_of (plan ws)) where
+    pub answered-zero : sheet_refusal ws ≡ 0
+    answered-zero = sym planned-number ∙ sym (ap number_of e)
+
+    pub answered-plan : a ≡ laid_out (good_plan (sheet_of ws))
+    answered-plan = let q : ◌≡◌ {A = Result PlanAnswer Refusal} (Ok a) (Ok (laid_out (good_plan (sheet_of ws)))) = e ∙ sym (answer-good answered-zero) in cc
+
+  pub answered-refused : (r : Refusal) → Err r ≡ answer_of (plan ws) → sheet_refusal ws ≡ refusal_number r
+  answered-refused r e = sym planned-number ∙ sym (ap number_of e)
 
   -- the same, of what the check hands out
   pub plan-refused : (r : Refusal) → Err r ≡ checked_of ws → Err r ≡ answer_of (plan ws)

@@ -1,10 +1,10 @@
 -- The text of the plan call's answer, in which a set is a row of marks.
 -- Assumes nothing.
-use Rattle.std.specs.Prelude.{ℕ, cond, List, ◌++◌, eqb, get_or}
+use Rattle.std.specs.Prelude.{ℕ, List, ◌++◌, get_or}
 use Rattle.sheet_plan.specs.Marks.{marked_in}
 use Rattle.plan_answer.specs.declared.PlanAnswer.{PlanAnswer}
 use Rattle.text.specs.Reading.{Text}
-use Rattle.text.specs.Printing.{sets_text, line_text, head_text, refused_text, lines_up_to}
+use Rattle.text.specs.Printing.{sets_text, line_text, head_text, lines_up_to}
 
 -- table t's sets in three runs of marks, its line, and the first n lines
 abbrev pub sets_in : List ℕ → List ℕ → List ℕ → ℕ → Text
@@ -20,7 +20,4 @@ abbrev pub lines_in : List ℕ → List ℕ → List ℕ → List ℕ → ℕ �
 lines_in kept columns dep need n = lines_up_to (line_of kept columns dep need) n
 
 unfoldable pub answer_text : PlanAnswer → Text
-answer_text a =
-    cond (eqb a.number 0)
-    (head_text a.root a.store ++ lines_in a.kept a.columns a.dep a.need a.tables)
-    (refused_text a.number)
+answer_text a = head_text a.root a.store ++ lines_in a.kept a.columns a.dep a.need a.tables
