@@ -18,7 +18,6 @@ use Rattle.effects.proofs.Deletes.{delete-contradicts-side, delete-none, delete-
 use Rattle.sheet_plan.specs.declared.Plan.{Plan}
 use Rattle.walk.specs.Grounds.{Lent}
 use Rattle.store.specs.declared.Part.{Part}
-use Rattle.store.specs.declared.Answer.TheVariants.{Done, Refused}
 use Rattle.store.specs.Parts.{count_in, rows_in, Lies, Wrote}
 use Rattle.store.proofs.Answers.{says-refused}
 use Rattle.side_table.specs.Sides.{Sided}
@@ -30,6 +29,9 @@ use Rattle.change_taken.specs.declared.Taken.TheVariants.{All, Contrary}
 use Rattle.change_taken.specs.Taking.{WaysTaken}
 use Rattle.change_taken.proofs.Lists.{marked-few, list_count, rows_few}
 use Rattle.change_delete.specs.Deletes.{Deletes}
+use Rattle.std.specs.Prelude.{Err}
+use Rattle.store.specs.Answers.{accepts}
+use Rattle.sheet.specs.declared.refusal.Refusal.TheVariants.{Contradiction}
 
 -- The rows that are taken: there are few, and their numbers rise
 module _ {ws store : Words} {plan : Plan} (rd : Ready ws store plan) {t : ℕ} {r : Row} (lent : Lent ws t r)
@@ -54,10 +56,10 @@ module _ {ws store : Words} {plan : Plan} (rd : Ready ws store plan) {t : ℕ} {
     (b : Bool) (eb : b ≡ old_row (sheet_of ws) (model_of (sheet_of ws) store) t r)
   where
     -- the side table contradicts it
-    pub deletes-contradicts-side : not b ≡ true → Deletes ws store t r (Refused 8) store
+    pub deletes-contradicts-side : not b ≡ true → Deletes ws store t r (Err Contradiction) store
     deletes-contradicts-side h =
         record {
-          says = λ o. says-refused (applied (sheet_of ws) store (change_of 2 t r o)) 8 store (λ z. omega arith)
+          says = λ o. says-refused (applied (sheet_of ws) store (change_of 2 t r o)) Contradiction store
               (delete-contradicts-side (sheet_of ws) (ready-good rd) store rd.sound t (ready-table rd lent) r o (sym eb ∙ not-true b h));
         }
 
@@ -65,7 +67,7 @@ module _ {ws store : Words} {plan : Plan} (rd : Ready ws store plan) {t : ℕ} {
       old : old_row (sheet_of ws) (model_of (sheet_of ws) store) t r ≡ true
       old = sym eb ∙ not-false b h
 
-      pub deletes-none : not q ≡ true → Deletes ws store t r (Done 0 0) store
+      pub deletes-none : not q ≡ true → Deletes ws store t r (accepts 0 0) store
       deletes-none f =
           record {
             says = λ o. says_nothing (applied (sheet_of ws) store (change_of 2 t r o)) store
@@ -77,10 +79,10 @@ module _ {ws store : Words} {plan : Plan} (rd : Ready ws store plan) {t : ℕ} {
         fine = sym eq ∙ not-false q f
 
         -- the list does
-        pub deletes-contradicts-list : a ≡ Contrary → Deletes ws store t r (Refused 8) store
+        pub deletes-contradicts-list : a ≡ Contrary → Deletes ws store t r (Err Contradiction) store
         deletes-contradicts-list e =
             record {
-              says = λ o. says-refused (applied (sheet_of ws) store (change_of 2 t r o)) 8 store (λ z. omega arith)
+              says = λ o. says-refused (applied (sheet_of ws) store (change_of 2 t r o)) Contradiction store
                   (delete-contradicts-list (sheet_of ws) (ready-good rd) store rd.sound t (ready-table rd lent) r o old fine
                   (subst (WaysTaken ws store t r numbers) e m));
             }
@@ -88,7 +90,7 @@ module _ {ws store : Words} {plan : Plan} (rd : Ready ws store plan) {t : ℕ} {
         -- its rows leave the list and then its side table
         module _ (list : Part) (lies : Lies (sheet_of ws) (sheet_of ws).n list) (k : ℕ) (e : a ≡ All k) (mid : Words)
             (w : Wrote list (spared (is_marked (take k numbers)) (rows_in list store)) store mid) where
-          pub deletes-done : (exit : Words) → Sided (sheet_of ws) t (take_rows (side_row (sheet_of ws) t r)) mid exit → Deletes ws store t r (Done k 0) exit
+          pub deletes-done : (exit : Words) → Sided (sheet_of ws) t (take_rows (side_row (sheet_of ws) t r)) mid exit → Deletes ws store t r (accepts k 0) exit
           deletes-done exit si =
               let s = sheet_of ws in
               let l = ready-table rd lent in

@@ -6,22 +6,22 @@ ghost use Rattle.change_laws.specs.Ready.{Ready};
 ghost use Rattle.change_delete.specs.Deletes.{Deletes};
 
 use change_taken::Taken;
-use sheet::{CONTRADICTION, ROOM};
+use sheet::{ROOM, Refusal};
 use sheet_plan::Plan;
-use store::Answer;
+use store::Done;
 
 // Row leaves its table, if it is qualified: its shown columns the side table, and a row for each way through it the list.
-pub fn delete(sheet: &[u64], plan: Plan, store: &mut [u64], table: usize, row: &[u64]) -> Answer
+pub fn delete(sheet: &[u64], plan: Plan, store: &mut [u64], table: usize, row: &[u64]) -> Result<Done, Refusal>
     requires ready { Ready sheet.now store.old plan }
     requires lent { Lent sheet.now table row.now }
     ensures { Deletes sheet.now store.old table row.now result store.new }
 {
     let qualified = walk::is_qualified(sheet, &plan.starts, &plan.columns, store, table, row);
     if !side_table::old_row(sheet, &plan, store, table, row, qualified) {
-        return Answer::Refused(CONTRADICTION);
+        return Err(Refusal::Contradiction);
     }
     if !qualified {
-        return Answer::Done(0, 0);
+        return Ok(Done { taken: 0, added: 0 });
     }
     let list = store::part_of(&plan, plan.tables);
     let mut marked = [0u16; ROOM];
@@ -39,9 +39,12 @@ pub fn delete(sheet: &[u64], plan: Plan, store: &mut [u64], table: usize, row: &
         &mut marked,
     );
     let Taken::All(taken) = a else {
-        return Answer::Refused(CONTRADICTION);
+        return Err(Refusal::Contradiction);
     };
     store::take_marked(store, list, &marked[..taken]);
     side_table::take_side(sheet, &plan, store, table, row);
-    Answer::Done(taken as u64, 0)
+    Ok(Done {
+        taken: taken as u64,
+        added: 0,
+    })
 }

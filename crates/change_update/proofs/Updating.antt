@@ -35,7 +35,6 @@ use Rattle.change_taken.proofs.Finding.{fits-lent}
 use Rattle.store.proofs.Lying.{rows_is}
 use Rattle.walk.specs.Grounds.{Lent}
 use Rattle.store.specs.declared.Part.{Part}
-use Rattle.store.specs.declared.Answer.TheVariants.{Done, Refused}
 use Rattle.store.specs.Parts.{count_in, rows_in, Lies}
 use Rattle.store.proofs.Answers.{says-refused}
 use Rattle.side_table.specs.Sides.{Replaceable, Sided}
@@ -45,16 +44,19 @@ use Rattle.change_laws.proofs.Halves.{ready-good, ready-table, half-side, says_b
 use Rattle.change_taken.specs.declared.Taken.{Taken}
 use Rattle.change_taken.specs.declared.Taken.TheVariants.{All, Contrary}
 use Rattle.change_update.specs.Updates.{ReplacedTaken, Updates}
+use Rattle.std.specs.Prelude.{Err}
+use Rattle.store.specs.Answers.{accepts}
+use Rattle.sheet.specs.declared.refusal.Refusal.TheVariants.{Contradiction}
 
 module _ {ws store : Words} {plan : Plan} (rd : Ready ws store plan) {t : ℕ} {r : Row} (lent : Lent ws t r) (r' : Row)
     (q : Bool) (eq : q ≡ qualifies (sheet_of ws) (model_of (sheet_of ws) store) t r)
     (b : Bool) (eb : b ≡ old_row (sheet_of ws) (model_of (sheet_of ws) store) t r)
   where
     -- the side table contradicts it
-    pub updates-contradicts-side : not b ≡ true → Updates ws store t r r' (Refused 8) store
+    pub updates-contradicts-side : not b ≡ true → Updates ws store t r r' (Err Contradiction) store
     updates-contradicts-side h =
         record {
-          says = says-refused (applied (sheet_of ws) store (change_of 3 t r r')) 8 store (λ z. omega arith)
+          says = says-refused (applied (sheet_of ws) store (change_of 3 t r r')) Contradiction store
               (update-contradicts-side (sheet_of ws) (ready-good rd) store rd.sound t (ready-table rd lent) r r' (sym eb ∙ not-true b h));
         }
 
@@ -62,7 +64,7 @@ module _ {ws store : Words} {plan : Plan} (rd : Ready ws store plan) {t : ℕ} {
       old : old_row (sheet_of ws) (model_of (sheet_of ws) store) t r ≡ true
       old = sym eb ∙ not-false b h
 
-      pub updates-none : not q ≡ true → Updates ws store t r r' (Done 0 0) store
+      pub updates-none : not q ≡ true → Updates ws store t r r' (accepts 0 0) store
       updates-none f =
           record {
             says = says_nothing (applied (sheet_of ws) store (change_of 3 t r r')) store
@@ -74,11 +76,11 @@ module _ {ws store : Words} {plan : Plan} (rd : Ready ws store plan) {t : ℕ} {
         fine = sym eq ∙ not-false q f
 
         -- the list does
-        pub updates-contradicts-list : a ≡ Contrary → Updates ws store t r r' (Refused 8) store
+        pub updates-contradicts-list : a ≡ Contrary → Updates ws store t r r' (Err Contradiction) store
         updates-contradicts-list e =
             let s = sheet_of ws in
             record {
-              says = says-refused (applied s store (change_of 3 t r r')) 8 store (λ z. omega arith)
+              says = says-refused (applied s store (change_of 3 t r r')) Contradiction store
                   (⊎_elim (λ x. update-contradicts-shown s (ready-good rd) store rd.sound t (ready-table rd lent) r r' old x)
                   (λ x. update-contradicts-list s (ready-good rd) store rd.sound t (ready-table rd lent) r r' old fine x.0 x.1)
                   (subst (ReplacedTaken ws store t r numbers) e m fine));
@@ -141,7 +143,7 @@ module _ {ws store : Words} {plan : Plan} (rd : Ready ws store plan) {t : ℕ} {
 
           pub updates-done : (exit : Words)
               → Sided (sheet_of ws) t (λ (rows : Rows). put_rows (side_row (sheet_of ws) t r') (take_rows (side_row (sheet_of ws) t r) rows)) mid exit
-              → Updates ws store t r r' (Done k k) exit
+              → Updates ws store t r r' (accepts k k) exit
           unfolding gives
           updates-done exit si =
               let s = sheet_of ws in

@@ -11,9 +11,9 @@ ghost use Rattle.change_laws.specs.Ready.{Ready};
 ghost use Rattle.change_update.specs.Updates.{can_take_by, ReplacedTaken, Updates};
 
 use change_taken::Taken;
-use sheet::{CONTRADICTION, ROOM};
+use sheet::{ROOM, Refusal};
 use sheet_plan::Plan;
-use store::{Answer, Part};
+use store::{Done, Part};
 
 // Whether ways through a row of this table can be taken: it is the root, or the root has a side table.
 fn can_take(plan: Plan, table: usize) -> bool
@@ -82,7 +82,7 @@ pub fn update(
     table: usize,
     old: &[u64],
     new: &[u64],
-) -> Answer
+) -> Result<Done, Refusal>
     requires ready { Ready sheet.now store.old plan }
     requires lent { Lent sheet.now table old.now }
     requires lent_2 { Lent sheet.now table new.now }
@@ -91,18 +91,21 @@ pub fn update(
 {
     let qualified = walk::is_qualified(sheet, &plan.starts, &plan.columns, store, table, old);
     if !side_table::old_row(sheet, &plan, store, table, old, qualified) {
-        return Answer::Refused(CONTRADICTION);
+        return Err(Refusal::Contradiction);
     }
     if !qualified {
-        return Answer::Done(0, 0);
+        return Ok(Done { taken: 0, added: 0 });
     }
     let list = store::part_of(&plan, plan.tables);
     let mut marked = [0u16; ROOM];
     let a = mark_replaced(sheet, plan, store, list, table, old, &mut marked);
     let Taken::All(k) = a else {
-        return Answer::Refused(CONTRADICTION);
+        return Err(Refusal::Contradiction);
     };
     list_part::replace_rows(sheet, store, list, &marked[..k], table, old, new);
     side_table::replace_side(sheet, &plan, store, table, old, new);
-    Answer::Done(k as u64, k as u64)
+    Ok(Done {
+        taken: k as u64,
+        added: k as u64,
+    })
 }

@@ -2,7 +2,7 @@
 // caller lends.
 #![tactic(auto)]
 
-ghost use Rattle.std.specs.Prelude.{◌≡◌, ◌+◌, ◌*◌, ◌≤◌, ◌++◌, length};
+ghost use Rattle.std.specs.Prelude.{◌≡◌, ◌+◌, ◌*◌, ◌≤◌, ◌++◌, Ok, length};
 ghost use Rattle.meaning.specs.Limits.{most_tables, most_places};
 ghost use Rattle.meaning.specs.Change.{change};
 ghost use Rattle.meaning.specs.Fill.{fill};
@@ -11,8 +11,8 @@ ghost use Rattle.text.specs.Writing.{PutAt};
 ghost use Rattle.oratjolet.specs.Exports.{plan_length, plan_words, PlanLeft, StretchLeft, Told, Left};
 
 use plan_answer::PlanAnswer;
-use sheet::{PLACES, TABLES};
-use store::Answer;
+use sheet::{PLACES, Refusal, TABLES};
+use store::Done;
 
 // What the plan call answers: four numbers, a mark for each table, three sets of marks, and where each table's part begins and its room.
 pub const PLAN_WORDS: usize = 4 + TABLES + 3 * PLACES + 2 * TABLES;
@@ -70,13 +70,13 @@ fn put_parts(starts: [usize; TABLES], rooms: [usize; TABLES], out: &mut [u64], a
     put_places(&rooms, out, a)
 }
 
-// Writes the plan call's answer field by field.
+// Writes a plan field by field, behind the number of an accepted call.
 fn put_plan(a: PlanAnswer, out: &mut [u64]) -> usize
     requires { length out.old ≡ plan_length }
-    ensures put_at { PutAt out.old 0 (plan_words a) out.new result }
+    ensures put_at { PutAt out.old 0 (plan_words (Ok a)) out.new result }
     ensures value { result ≡ plan_length }
 {
-    let head = [a.number, a.tables as u64, a.root as u64, a.store as u64];
+    let head = [0, a.tables as u64, a.root as u64, a.store as u64];
     let kept = a.kept;
     let columns = a.columns;
     let dep = a.dep;
@@ -89,16 +89,32 @@ fn put_plan(a: PlanAnswer, out: &mut [u64]) -> usize
     put_parts(starts, rooms, out, d)
 }
 
+// Writes the plan call's answer: a plan, or a refusal's number and zeros.
+fn put_answer(answer: Result<PlanAnswer, Refusal>, out: &mut [u64])
+    requires { length out.old ≡ plan_length }
+    ensures { out.new ≡ plan_words answer }
+{
+    match answer {
+        Ok(a) => {
+            put_plan(a, out);
+        }
+        Err(refusal) => {
+            out.fill(0);
+            out[0] = u64::from(refusal);
+        }
+    }
+}
+
 // The plan call: its number, and the whole answer in the lent words.
 pub fn oratjolet_plan(sheet: &[u64], answer: &mut [u64; PLAN_WORDS]) -> u64
     ensures { PlanLeft sheet.now result answer.new }
 {
     let a = plan_answer::plan_of(sheet);
-    put_plan(a, answer);
-    a.number
+    put_answer(a, answer);
+    answer[0]
 }
 
-// The show call: its number, and in the lent words where in the store the rows begin and how many words they are.
+// The show call: its number, and in the lent words where in the store the rows begin and how many words they are; 0 and 0 if it is refused.
 pub fn oratjolet_show(
     sheet: &[u64],
     store: &[u64],
@@ -108,28 +124,22 @@ pub fn oratjolet_show(
 ) -> u64
     ensures { StretchLeft sheet.now store.now number result first.new count.new }
 {
-    let s = store::find_stretch(sheet, store, number);
+    let found = store::find_stretch(sheet, store, number);
+    let s = found.unwrap_or_default();
     *first = s.first as u64;
     *count = s.count as u64;
-    s.refusal
+    sheet::number_of(found)
 }
 
-// What fill and change answer: the number, and in the lent words the rows taken from the list and added to it.
-fn tell(a: Answer, taken: &mut u64, added: &mut u64) -> u64
+// What fill and change answer: the number, and in the lent words the rows taken from the list and added to it; 0 and 0 if it is refused.
+fn tell(a: Result<Done, Refusal>, taken: &mut u64, added: &mut u64) -> u64
     ensures { Told a result taken.new added.new }
 {
-    match a {
-        Answer::Done(t, d) => {
-            *taken = t;
-            *added = d;
-            0
-        }
-        Answer::Refused(k) => {
-            *taken = 0;
-            *added = 0;
-            k
-        }
-    }
+    let number = sheet::number_of(a);
+    let done = a.unwrap_or_default();
+    *taken = done.taken;
+    *added = done.added;
+    number
 }
 
 // The fill call: its number, the rows taken from the list, 0, and those on it, and the store from the base tables.
