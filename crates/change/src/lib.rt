@@ -36,7 +36,7 @@ pub fn change(
         let number = sheet::number_of(asked);
         return Answer::Refused(number);
     };
-    if !store::is_sound(plan, store) {
+    if !store::is_sound(&plan, store) {
         return Answer::Refused(NOT_SOUND);
     }
     change_apply::apply(sheet, plan, store, kind, table as usize, old, new)

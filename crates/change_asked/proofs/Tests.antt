@@ -2,40 +2,25 @@
 -- Assumes nothing.
 use Prim.Native.Nat.{ℕ, ◌<◌, ◌≤◌}
 use mathlib.Core.Path.{◌≡◌, refl, sym, ap, ap₂, ◌∙◌}
-use mathlib.Core.Bool.{Bool, true, false, cond, not, ◌&&◌, ◌||◌, and_comm, and-false}
+use mathlib.Core.Bool.{Bool, true, false, cond, not, ◌&&◌, ◌||◌, and_comm}
 use native.Mathlib.Omega.{arith}
 use lib.Dec.{eqb, ltb}
 use lib.ListN.{length}
-use borrow.Author.Tests.{eqb-true, eq-eqb, ne_eqb, lt-ltb, le-ltb}
+use borrow.Author.Tests.{eqb-true, ne_eqb, lt-ltb, le-ltb}
 use Rattle.lists.specs.Lists.{Words, at, any}
 use Rattle.lists.specs.Loops.{every, some}
 use Rattle.rows.specs.Rows.{Row, key}
 use Rattle.meaning.specs.Sheet.{sheet_of, leaves, table_count, edge_count, condition_count}
 use Rattle.meaning.specs.Base.{Change, change_of, good_change, tied, same_tied, tied_stay}
 use Rattle.laws.proofs.Lists.{any-select}
-use Rattle.sheet.specs.declared.reading.Condition.{Condition}
-use Rattle.sheet.specs.Read.{ReadsCondition}
 use Rattle.sheet.specs.Numbered.{width_no, edge_no, condition_no}
 use Rattle.sheet.proofs.Words.{n-is, width_is, edges_are, conditions-are}
 use Rattle.sheet.proofs.Numbers.{any-up, all-up_to}
-use Rattle.sheet.specs.declared.Verdict.{Verdict}
-use Rattle.sheet.specs.declared.Verdict.TheVariants.{Good, Refused}
+use Rattle.std.specs.Prelude.{Result, Ok, Err, ⊤}
+use Rattle.sheet.specs.declared.refusal.Refusal.{Refusal}
+use Rattle.sheet.specs.declared.refusal.Refusal.TheVariants.{BadRequest, AltersTied}
 use Rattle.derive.specs.Derived.{leaves_by}
 use Rattle.change_asked.specs.Asked.{condition_on, tied_no, stays_at, one_row, two_rows, asked_of}
-
--- a condition read is on column c of table t, or not
-module _ (ws : Words) (t c i : ℕ) {x : Condition} (r : ReadsCondition ws i x) where
-  pub on-yes : x.table ≡ t → x.column ≡ c → condition_on ws t c i ≡ true
-  unfolding condition_on
-  on-yes p q = rw (eq-eqb _ _ (sym r.table_is ∙ p), eq-eqb _ _ (sym r.column-is ∙ q))
-
-  pub on-other : (x.table ≡ t → ⊥) → condition_on ws t c i ≡ false
-  unfolding condition_on
-  on-other p = rw (ne_eqb _ _ (λ e. p (r.table_is ∙ e)))
-
-  pub on-elsewhere : (x.column ≡ c → ⊥) → condition_on ws t c i ≡ false
-  unfolding condition_on
-  on-elsewhere q = rw (ne_eqb (condition_no ws i).column c (λ e. q (r.column-is ∙ e))) (and-false (eqb (condition_no ws i).table t))
 
 -- tied, by number
 pub tied_is : (ws : Words) (t c : ℕ) → tied_no ws t c ≡ (some (condition_on ws t c) (condition_count ws) || some (leaves_by ws t c) (edge_count ws))
@@ -48,35 +33,21 @@ tied_is ws t c =
     (any-select (λ e. eqb e.column c) (leaves t) (sheet_of ws).edges
     ∙ ap (any (λ e. leaves t e && eqb e.column c)) (edges_are ws) ∙ any-up (λ e. leaves t e && eqb e.column c) (edge_no ws) (edge_count ws))
 
-module _ (ws : Words) (t : ℕ) (r r' : Row) (c : ℕ) where
-  -- a column of one value, a column that is not tied, and a tied column of two values
-  pub stays_same : at r c ≡ at r' c → stays_at ws t r r' c ≡ true
-  unfolding stays_at
-  stays_same e = rw (eq-eqb (at r c) (at r' c) e) (or-true (not (tied_no ws t c)))
-    where
-      or-true : (b : Bool) → (b || true) ≡ true
-      or-true true = refl
-      or-true false = refl
-
-  pub stays-free : tied_no ws t c ≡ false → stays_at ws t r r' c ≡ true
-  unfolding stays_at
-  stays-free e = rw e
-
-  pub stays-not : (at r c ≡ at r' c → ⊥) → tied_no ws t c ≡ true → stays_at ws t r r' c ≡ false
-  unfolding stays_at
-  stays-not d e = rw (e, ne_eqb (at r c) (at r' c) d)
+-- what is answered by the two tests
+abbrev asked_by : Bool → Bool → Result ⊤ Refusal
+asked_by good stay = cond good (cond stay (Ok tt) (Err AltersTied)) (Err BadRequest)
 
 -- the ways through `asked`
 module _ (ws : Words) (kind t : ℕ) (r r' : Row) where
-  pub no_table : table_count ws ≤ t → Refused 5 ≡ asked_of ws (change_of kind t r r')
+  pub no_table : table_count ws ≤ t → Err BadRequest ≡ asked_of ws (change_of kind t r r')
   unfolding asked_of good_change
   no_table h = rw (n-is ws, le-ltb t (table_count ws) h)
 
-  pub no_kind : (kind ≡ 1 → ⊥) → (kind ≡ 2 → ⊥) → (kind ≡ 3 → ⊥) → Refused 5 ≡ asked_of ws (change_of kind t r r')
+  pub no_kind : (kind ≡ 1 → ⊥) → (kind ≡ 2 → ⊥) → (kind ≡ 3 → ⊥) → Err BadRequest ≡ asked_of ws (change_of kind t r r')
   unfolding asked_of good_change
   no_kind a b c = rw (ne_eqb kind 1 a, ne_eqb kind 2 b, ne_eqb kind 3 c) (neither (ltb t (sheet_of ws).n))
     where
-      neither : (b : Bool) → Refused 5 ≡ cond {A = Verdict} (b && false) (cond (tied_stay (sheet_of ws) (change_of kind t r r')) Good (Refused 6)) (Refused 5)
+      neither : (b : Bool) → Err BadRequest ≡ asked_by (b && false) (tied_stay (sheet_of ws) (change_of kind t r r'))
       neither true = refl
       neither false = refl
 
@@ -103,18 +74,18 @@ module _ (ws : Words) (t : ℕ) (l : t < table_count ws) (r r' : Row) where
 
         -- the columns of the row that is there are those of the table
         go : (b : Bool) → eqb (length r) w ≡ b
-            → cond {A = Verdict} (b && eqb (length r') w && eqb (key r) (key r')) (cond (every stays (length r)) Good (Refused 6)) (Refused 5)
-            ≡ cond (b && eqb (length r') w && eqb (key r) (key r')) (cond (every stays w) Good (Refused 6)) (Refused 5)
+            → asked_by (b && eqb (length r') w && eqb (key r) (key r')) (every stays (length r))
+            ≡ asked_by (b && eqb (length r') w && eqb (key r) (key r')) (every stays w)
         go true q = rw (eqb-true (length r) w q)
         go false q = refl
 
 -- a verdict on what is asked, taken apart
 module _ (ws : Words) (c : Change) where
-  pub asked-good : asked_of ws c ≡ Good → (good_change (sheet_of ws) c ≡ true) × (tied_stay (sheet_of ws) c ≡ true)
+  pub asked-good : asked_of ws c ≡ Ok tt → (good_change (sheet_of ws) c ≡ true) × (tied_stay (sheet_of ws) c ≡ true)
   unfolding asked_of
   asked-good h = go (good_change (sheet_of ws) c) (tied_stay (sheet_of ws) c) h
     where
-      go : (a b : Bool) → cond {A = Verdict} a (cond b Good (Refused 6)) (Refused 5) ≡ Good → (a ≡ true) × (b ≡ true)
+      go : (a b : Bool) → asked_by a b ≡ Ok tt → (a ≡ true) × (b ≡ true)
       go true true h = (refl, refl)
       go true false h = absurd (let z : ◌≡◌ {A = ℕ} 0 1 = cc in omega arith)
       go false b h = absurd (let z : ◌≡◌ {A = ℕ} 0 1 = cc in omega arith)

@@ -9,25 +9,17 @@ ghost use Rattle.sheet.specs.Rules.{Counts};
 ghost use Rattle.sheet.specs.Tree.{GoodSheet};
 ghost use Rattle.change_asked.specs.Asked.{condition_on, tied_no, stays_at, one_row, two_rows, asked_of};
 
-use sheet::Verdict;
+use sheet::Refusal;
 
 // Whether a condition speaks of column c of table t.
 fn in_condition(sheet: &[u64], t: usize, c: usize) -> bool
     requires { Counts sheet.now }
     ensures { result ≡ some (condition_on sheet.now t c) (condition_count sheet.now) }
 {
-    let many = sheet::conditions(sheet);
-    let mut k = 0;
-    while k < many {
+    (0..sheet::conditions(sheet)).any(|k| {
         let condition = sheet::condition_no(sheet, k);
-        k += 1;
-        if condition.table == t {
-            if condition.column == c {
-                return true;
-            }
-        }
-    }
-    false
+        condition.table == t && condition.column == c
+    })
 }
 
 // Whether column c of table t is tied: in a condition, or the child column of an edge.
@@ -35,10 +27,7 @@ pub fn is_tied(sheet: &[u64], t: usize, c: usize) -> bool
     requires { Counts sheet.now }
     ensures { result ≡ tied_no sheet.now t c }
 {
-    if in_condition(sheet, t, c) {
-        return true;
-    }
-    derive::is_child_column(sheet, t, c)
+    in_condition(sheet, t, c) || derive::is_child_column(sheet, t, c)
 }
 
 // Whether no tied column of table t differs between the two rows.
@@ -47,60 +36,50 @@ fn tied_stay(sheet: &[u64], t: usize, old: &[u64], new: &[u64]) -> bool
     requires len { length old.now ≡ length new.now }
     ensures { result ≡ every (stays_at sheet.now t old.now new.now) (length old.now) }
 {
-    let mut k = 0;
-    while k < old.len() {
-        let c = k;
-        k += 1;
-        if old[c] != new[c] {
-            if is_tied(sheet, t, c) {
-                return false;
-            }
-        }
-    }
-    true
+    (0..old.len()).all(|c| old[c] == new[c] || !is_tied(sheet, t, c))
 }
 
 // An insert's or a delete's rows: one of the table's width, and the unused one has length 0.
-fn one_row(unused: &[u64], row: &[u64], w: usize) -> Verdict
+fn one_row(unused: &[u64], row: &[u64], w: usize) -> Result<(), Refusal>
     ensures { result ≡ one_row (length unused.now) (length row.now) w }
 {
     if unused.len() != 0 {
-        return Verdict::Refused(5);
+        return Err(Refusal::BadRequest);
     }
     if row.len() != w {
-        return Verdict::Refused(5);
+        return Err(Refusal::BadRequest);
     }
-    Verdict::Good
+    Ok(())
 }
 
 // An update's rows: both of the table's width, with one key, and no tied column altered.
-fn two_rows(sheet: &[u64], t: usize, old: &[u64], new: &[u64], w: usize) -> Verdict
+fn two_rows(sheet: &[u64], t: usize, old: &[u64], new: &[u64], w: usize) -> Result<(), Refusal>
     requires counts { Counts sheet.now }
     requires le_w { 1 ≤ w }
     ensures { result ≡ two_rows sheet.now t old.now new.now w }
 {
     if old.len() != w {
-        return Verdict::Refused(5);
+        return Err(Refusal::BadRequest);
     }
     if new.len() != w {
-        return Verdict::Refused(5);
+        return Err(Refusal::BadRequest);
     }
     if old[0] != new[0] {
-        return Verdict::Refused(5);
+        return Err(Refusal::BadRequest);
     }
     if !tied_stay(sheet, t, old, new) {
-        return Verdict::Refused(6);
+        return Err(Refusal::AltersTied);
     }
-    Verdict::Good
+    Ok(())
 }
 
 // The verdict on a change before the store is read.
-pub fn asked(sheet: &[u64], kind: u64, table: u64, old: &[u64], new: &[u64]) -> Verdict
+pub fn asked(sheet: &[u64], kind: u64, table: u64, old: &[u64], new: &[u64]) -> Result<(), Refusal>
     requires { GoodSheet sheet.now }
     ensures { result ≡ asked_of sheet.now (change_of kind table old.now new.now) }
 {
     if sheet::tables(sheet) as u64 <= table {
-        return Verdict::Refused(5);
+        return Err(Refusal::BadRequest);
     }
     let t = table as usize;
     let w = sheet::width_no(sheet, t);
@@ -108,6 +87,6 @@ pub fn asked(sheet: &[u64], kind: u64, table: u64, old: &[u64], new: &[u64]) -> 
         1 => one_row(old, new, w),
         2 => one_row(new, old, w),
         3 => two_rows(sheet, t, old, new, w),
-        0 | 4..=u64::MAX => Verdict::Refused(5),
+        0 | 4..=u64::MAX => Err(Refusal::BadRequest),
     }
 }

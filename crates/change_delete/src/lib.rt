@@ -17,13 +17,13 @@ pub fn delete(sheet: &[u64], plan: Plan, store: &mut [u64], table: usize, row: &
     ensures { Deletes sheet.now store.old table row.now result store.new }
 {
     let qualified = walk::is_qualified(sheet, &plan.starts, &plan.columns, store, table, row);
-    if !side_table::old_row(sheet, plan, store, table, row, qualified) {
+    if !side_table::old_row(sheet, &plan, store, table, row, qualified) {
         return Answer::Refused(CONTRADICTION);
     }
     if !qualified {
         return Answer::Done(0, 0);
     }
-    let list = store::part_of(plan, plan.tables);
+    let list = store::part_of(&plan, plan.tables);
     let mut marked = [0u16; ROOM];
     let a = change_taken::mark_ways(
         sheet,
@@ -42,6 +42,6 @@ pub fn delete(sheet: &[u64], plan: Plan, store: &mut [u64], table: usize, row: &
         return Answer::Refused(CONTRADICTION);
     };
     store::take_marked(store, list, &marked[..taken]);
-    side_table::take_side(sheet, plan, store, table, row);
+    side_table::take_side(sheet, &plan, store, table, row);
     Answer::Done(taken as u64, 0)
 }

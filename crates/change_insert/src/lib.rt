@@ -16,16 +16,16 @@ pub fn insert(sheet: &[u64], plan: Plan, store: &mut [u64], table: usize, row: &
     requires lent { Lent sheet.now table row.now }
     ensures { Inserts sheet.now store.old table row.now result store.new }
 {
-    if !side_table::new_key(sheet, plan, store, table, row) {
+    if !side_table::new_key(sheet, &plan, store, table, row) {
         return Answer::Refused(CONTRADICTION);
     }
     if !walk::is_qualified(sheet, &plan.starts, &plan.columns, store, table, row) {
         return Answer::Done(0, 0);
     }
-    if !side_table::has_room(sheet, plan, store, table) {
+    if !side_table::has_room(sheet, &plan, store, table) {
         return Answer::Refused(NO_ROOM);
     }
-    let list = store::part_of(plan, plan.tables);
+    let list = store::part_of(&plan, plan.tables);
     let added = change_added::add_ways(
         sheet,
         plan.root,
@@ -40,7 +40,7 @@ pub fn insert(sheet: &[u64], plan: Plan, store: &mut [u64], table: usize, row: &
     );
     match added {
         Added::All(k) => {
-            side_table::put_side(sheet, plan, store, table, row);
+            side_table::put_side(sheet, &plan, store, table, row);
             Answer::Done(0, k as u64)
         }
         Added::NoRoom => Answer::Refused(NO_ROOM),

@@ -90,19 +90,19 @@ pub fn update(
     ensures { Updates sheet.now store.old table old.now new.now result store.new }
 {
     let qualified = walk::is_qualified(sheet, &plan.starts, &plan.columns, store, table, old);
-    if !side_table::old_row(sheet, plan, store, table, old, qualified) {
+    if !side_table::old_row(sheet, &plan, store, table, old, qualified) {
         return Answer::Refused(CONTRADICTION);
     }
     if !qualified {
         return Answer::Done(0, 0);
     }
-    let list = store::part_of(plan, plan.tables);
+    let list = store::part_of(&plan, plan.tables);
     let mut marked = [0u16; ROOM];
     let a = mark_replaced(sheet, plan, store, list, table, old, &mut marked);
     let Taken::All(k) = a else {
         return Answer::Refused(CONTRADICTION);
     };
     list_part::replace_rows(sheet, store, list, &marked[..k], table, old, new);
-    side_table::replace_side(sheet, plan, store, table, old, new);
+    side_table::replace_side(sheet, &plan, store, table, old, new);
     Answer::Done(k as u64, k as u64)
 }

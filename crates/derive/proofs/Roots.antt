@@ -2,12 +2,12 @@
 -- Assumes nothing.
 use Prim.Native.Nat.{ℕ, zero, suc, ◌<◌, ◌≤◌}
 use mathlib.Core.Path.{◌≡◌, refl, sym, ap, subst, ◌∙◌}
-use mathlib.Core.Bool.{Bool, true, false, not, ◌&&◌}
+use mathlib.Core.Bool.{Bool, true, not, ◌&&◌, ◌||◌}
 use mathlib.Core.List.{List}
 use mathlib.Core.Logic.{◌⊎◌, inl, inr, ⊎_elim}
 use native.Mathlib.Omega.{arith}
 use lib.Dec.{T, eqb}
-use borrow.Author.Tests.{eq-eqb, ne_eqb, eqb-true, eqb-false}
+use borrow.Author.Tests.{eqb-true, eqb-false}
 use Rattle.lists.specs.Lists.{Words, Mem, all, any, member}
 use Rattle.lists.specs.Loops.{some, first}
 use Rattle.lists.proofs.Truth.{T→≡, F→not, not→F, same_test, decided, or_inl, or_inr, or_cases, and-fst, and-snd, and_both, all-make, any-get, any-make}
@@ -140,17 +140,8 @@ module _ (ws : Words) (g : GoodSheet ws) (t i : ℕ) (h : t < table_count ws) (e
       ∙ subst (λ (r : ℕ). any (keeps (sheet_of ws) r) (sheet_of ws).edges ≡ kept (sheet_of ws) r) (sym (eqb-true _ _ (root-yes ws t i e g h l)))
       (root_kept (sheet_of ws) (good-sheet ws g.not-refused))
 
--- an edge read keeps the root t, or not
-module _ (ws : Words) (t i : ℕ) {x : Declared.Edge} (r : ReadsEdge ws i x) where
-  pub keeps-loose : (x.promise ≡ 1 → ⊥) → keeps_no ws t i ≡ true
-  unfolding keeps_no keeps
-  keeps-loose p = rw (ne_eqb (edge_no ws i).promise 1 (λ e. p (r.promise-is ∙ e)))
-
-  module _ (p : x.promise ≡ 1) where
-    pub keeps-other : (x.child ≡ t → ⊥) → keeps_no ws t i ≡ false
-    unfolding keeps_no keeps
-    keeps-other q = rw (eq-eqb _ _ (sym r.promise-is ∙ p), ne_eqb (edge_no ws i).child t (λ e. q (r.child-is ∙ e)))
-
-    pub keeps-next : (b : Bool) → x.child ≡ t → b ≡ listed_no ws x.parent 0 → not b ≡ keeps_no ws t i
-    unfolding keeps_no keeps listed_no
-    keeps-next b q e = rw (eq-eqb _ _ (sym r.promise-is ∙ p), eq-eqb _ _ (sym r.child-is ∙ q), ← r.parent_is) (ap not e)
+-- what an edge that was read says of keeping the root t
+pub keeps-test : (ws : Words) (t i : ℕ) {x : Declared.Edge} → ReadsEdge ws i x
+    → keeps_no ws t i ≡ (not (eqb x.promise 1) || (eqb x.child t && not (listed_no ws x.parent 0)))
+unfolding keeps_no keeps listed_no
+keeps-test ws t i r = rw (← r.promise-is, ← r.child-is, ← r.parent_is)

@@ -1,18 +1,19 @@
 -- The ways through the walks of Dep+ and Need, said of words and numbers.
 -- Assumes nothing.
-use Prim.Native.Nat.{ℕ, zero, suc, ◌+◌, ◌-◌, ◌<◌, ◌≤◌}
+use Prim.Native.Nat.{ℕ, zero, suc, ◌-◌, ◌<◌, ◌≤◌}
 use mathlib.Core.Path.{◌≡◌, refl, sym, ap, subst, ◌∙◌}
-use mathlib.Core.Bool.{Bool, true, false, not, ◌&&◌, ◌||◌, and-false}
+use mathlib.Core.Bool.{Bool, true, false, not, ◌&&◌, ◌||◌}
 use mathlib.Core.List.{List, [], ◌∷◌}
 use mathlib.Core.Logic.{◌⊎◌, inl, inr}
 use native.Mathlib.Numerals.{sub-one}
 use native.Mathlib.Omega.{arith}
-use lib.Dec.{T, eqb, ltb}
+use lib.Dec.{T, eqb, ltb, leb}
 use lib.ListN.{length}
-use borrow.Author.Tests.{eqb-true, eq-eqb, ne_eqb}
+use borrow.Author.Tests.{eqb-true, eq-eqb, ne_eqb, ltb-true, ltb-false, leb-true, leb-false}
 use Rattle.lists.specs.Lists.{Words, Mem, any, member}
 use Rattle.lists.specs.Loops.{some, first}
 use Rattle.lists.proofs.Truth.{T→≡, F→≡, same_test, select-mem, member→Mem, Mem→member, eq→eqb, eqb→≡}
+use Rattle.lists.proofs.Loops.{first-at}
 use Rattle.laws.proofs.Lists.{any-select}
 use Rattle.meaning.specs.Sheet as Meant
 use Rattle.meaning.specs.Sheet.{Sheet, sheet_of, goes_into, leaves, edges_into, is_root, table_count, edge_count, listed_count}
@@ -23,7 +24,7 @@ use Rattle.sheet.specs.Numbered.{edge_no, listing_no}
 use Rattle.sheet.specs.Tests.{listing_names}
 use Rattle.sheet.proofs.Numbers.{member-chosen, any-up, found, not_found, first_passes}
 use Rattle.sheet.proofs.Words.{n-is, edges_are, edge-there, listed-are}
-use Rattle.sheet.specs.Tree.{goes_no, Joined, GoodSheet}
+use Rattle.sheet.specs.Tree.{goes_no, root_no, Joined, GoodSheet}
 use Rattle.sheet.proofs.Into.{into-none, into-first, into-only}
 use Rattle.derive.specs.Derived.{dep_no, listed_no, need_no, leaves_by, shown_no}
 use Rattle.derive.proofs.Paths.{LastEdge, last-edge, add-edge}
@@ -31,10 +32,6 @@ use Rattle.derive.proofs.Paths.{LastEdge, last-edge, add-edge}
 -- a test that is false because it cannot be passed
 fails : (b : Bool) → (T b → ⊥) → false ≡ b
 fails b h = sym (F→≡ b h)
-
--- one further, where it is not there yet
-pub past : (t r : ℕ) → t ≤ r → (t ≡ r → ⊥) → t + 1 ≤ r
-past t r h d = omega arith
 
 -- Dep+ as a test and as membership
 dep-mem : (ws : Words) (k t u : ℕ) → T (dep_no ws k t u) → Mem u (dep_plus_in (sheet_of ws) k t)
@@ -123,12 +120,12 @@ pub listed-is : (ws : Words) (t c : ℕ) → listed_no ws t c ≡ some (listing_
 unfolding listed_no listing_names
 listed-is ws t c = ap (any (names t c)) (listed-are ws) ∙ any-up (names t c) (listing_no ws) (listed_count ws)
 
-module _ (ws : Words) (t c l p : ℕ) (q : p ≡ listed_count ws) (e : l ≡ first (listing_names ws t c) p) where
-  pub listed-yes : l < p → true ≡ listed_no ws t c
-  listed-yes h = sym (listed-is ws t c ∙ ap (some (listing_names ws t c)) (sym q) ∙ found _ p l e h)
-
-  pub listed-no : p ≤ l → false ≡ listed_no ws t c
-  listed-no h = sym (listed-is ws t c ∙ ap (some (listing_names ws t c)) (sym q) ∙ not_found _ p l e h)
+pub listed-test : (ws : Words) (t c l p : ℕ) → p ≡ listed_count ws → l ≡ first (listing_names ws t c) p → ltb l p ≡ listed_no ws t c
+listed-test ws t c l p q e = go (ltb l p) refl ∙ ap (some (listing_names ws t c)) q ∙ sym (listed-is ws t c)
+  where
+    go : (b : Bool) → ltb l p ≡ b → b ≡ some (listing_names ws t c) p
+    go true h = sym (found _ p l e (ltb-true _ _ h))
+    go false h = sym (not_found _ p l e (ltb-false _ _ h))
 
 -- the edge into a table, and whether it is the root
 module _ (ws : Words) (t i : ℕ) (e : i ≡ first (goes_no ws t) (edge_count ws)) where
@@ -144,6 +141,28 @@ module _ (ws : Words) (t i : ℕ) (e : i ≡ first (goes_no ws t) (edge_count ws
     where
       clash : length (edges_into (sheet_of ws) t) ≡ 0 → ⊥
       clash z = let x = into-first ws t i e h in omega (arith, ap length x.1)
+
+-- the root is the first table with no edge into it
+pub root-test : (ws : Words) (t i m : ℕ) → i ≡ first (goes_no ws t) (edge_count ws) → m ≡ edge_count ws → leb m i ≡ root_no ws t
+unfolding root_no
+root-test ws t i m e q = go (leb m i) refl
+  where
+    go : (b : Bool) → leb m i ≡ b → b ≡ is_root (sheet_of ws) t
+    go true h = let l = leb-true m i h in sym (eq-eqb (length (edges_into (sheet_of ws) t)) 0 (ap length (into-none ws t i e (omega arith))))
+    go false h =
+        let l = leb-false m i h in
+        let x = into-first ws t i e (omega arith) in
+        sym (ne_eqb (length (edges_into (sheet_of ws) t)) 0 (λ z. omega (arith, ap length x.1)))
+
+pub first-root : (ws : Words) → GoodSheet ws → first (root_no ws) (table_count ws) ≡ root (sheet_of ws)
+unfolding root_no
+first-root ws g = (first-at (root_no ws) (root (sheet_of ws)) (table_count ws) g.root_in (go (some (root_no ws) (root (sheet_of ws))) refl) g.root_is).1
+  where
+    go : (b : Bool) → some (root_no ws) (root (sheet_of ws)) ≡ b → b ≡ false
+    go true h =
+        let x = first_passes (root_no ws) (root (sheet_of ws)) h in
+        absurd (omega (arith, x.0, g.root_in, g.one-root (first (root_no ws) (root (sheet_of ws))) (omega (arith, x.0, g.root_in)) x.1))
+    go false h = refl
 
 pub member-others : (s : Sheet) (t u : ℕ) → member u (others s t) ≡ (ltb u s.n && not (eqb u t))
 unfolding others
@@ -194,17 +213,3 @@ shown-is ws t c =
     ap (λ a. eqb c 0 || a || is_listed (sheet_of ws) t c)
     (any-select (λ e. eqb e.column c) (leaves t) (sheet_of ws).edges ∙ ap (any (λ e. leaves t e && eqb e.column c)) (edges_are ws)
     ∙ any-up (λ e. leaves t e && eqb e.column c) (edge_no ws) (edge_count ws))
-
--- an edge read leaves table t by column c, or not
-module _ (ws : Words) (t c i : ℕ) {x : Edge} (r : ReadsEdge ws i x) where
-  pub leaves-yes : x.child ≡ t → x.column ≡ c → leaves_by ws t c i ≡ true
-  unfolding leaves_by
-  leaves-yes p q = rw (eq-eqb _ _ (sym r.child-is ∙ p), eq-eqb _ _ (sym r.column-is ∙ q))
-
-  pub leaves-other : (x.child ≡ t → ⊥) → leaves_by ws t c i ≡ false
-  unfolding leaves_by
-  leaves-other p = rw (ne_eqb _ _ (λ e. p (r.child-is ∙ e)))
-
-  pub leaves-elsewhere : (x.column ≡ c → ⊥) → leaves_by ws t c i ≡ false
-  unfolding leaves_by
-  leaves-elsewhere q = rw (ne_eqb (edge_no ws i).column c (λ e. q (r.column-is ∙ e))) (and-false (leaves t (edge_no ws i)))

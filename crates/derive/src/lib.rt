@@ -16,14 +16,9 @@ pub fn root_of(sheet: &[u64]) -> usize
 {
     let n = sheet::tables(sheet);
     let e = sheet::edges(sheet);
-    let mut t = 0;
-    while t < n {
-        if e <= sheet::edge_into(sheet, t) {
-            return t;
-        }
-        t += 1;
-    }
-    n
+    (0..n)
+        .find(|&t| e <= sheet::edge_into(sheet, t))
+        .unwrap_or(n)
 }
 
 // Whether u is in Dep+(t), over paths of at most `left` edges (with 1: in Dep(t)). The walk goes from u, by the one edge
@@ -55,10 +50,7 @@ fn is_listed(sheet: &[u64], t: usize, c: usize) -> bool
     ensures { result ≡ listed_no sheet.now t c }
 {
     let p = sheet::listed(sheet);
-    if sheet::listing_of(sheet, t, c, p) < p {
-        return true;
-    }
-    false
+    sheet::listing_of(sheet, t, c, p) < p
 }
 
 // Whether u is in Need(t), with `left` tables left on the path.
@@ -87,13 +79,7 @@ pub fn needs(sheet: &[u64], t: usize, u: usize, left: usize) -> bool
 fn is_other(n: usize, t: usize, u: usize) -> bool
     ensures { result ≡ (ltb u n && not (eqb u t)) }
 {
-    if n <= u {
-        return false;
-    }
-    if u == t {
-        return false;
-    }
-    true
+    u < n && u != t
 }
 
 // Whether edge k keeps the root t: it is not promised, or leads from t to a table whose key the list does not show, and which so needs t.
@@ -103,17 +89,7 @@ fn keeps_root(sheet: &[u64], t: usize, k: usize) -> bool
     ensures { result ≡ keeps_no sheet.now t k }
 {
     let edge = sheet::edge_no(sheet, k);
-    let promised = edge.promise == 1;
-    if !promised {
-        return true;
-    }
-    if edge.child != t {
-        return false;
-    }
-    if is_listed(sheet, edge.parent, 0) {
-        return false;
-    }
-    true
+    edge.promise != 1 || (edge.child == t && !is_listed(sheet, edge.parent, 0))
 }
 
 // Whether t has a side table: it has none exactly if Dep+(t) is every other table and t is in no table's Need. Nobody's Dep+ has the root, so
@@ -125,17 +101,7 @@ pub fn is_kept(sheet: &[u64], t: usize) -> bool
     ensures { result ≡ kept_no sheet.now t }
 {
     let e = sheet::edges(sheet);
-    if sheet::edge_into(sheet, t) < e {
-        return true;
-    }
-    let mut k = 0;
-    while k < e {
-        if keeps_root(sheet, t, k) {
-            return true;
-        }
-        k += 1;
-    }
-    false
+    sheet::edge_into(sheet, t) < e || (0..e).any(|k| keeps_root(sheet, t, k))
 }
 
 // Whether c is the child column of an edge that leaves t.
@@ -143,16 +109,8 @@ pub fn is_child_column(sheet: &[u64], t: usize, c: usize) -> bool
     requires { Counts sheet.now }
     ensures { result ≡ some (leaves_by sheet.now t c) (edge_count sheet.now) }
 {
-    let e = sheet::edges(sheet);
-    let mut k = 0;
-    while k < e {
+    (0..sheet::edges(sheet)).any(|k| {
         let edge = sheet::edge_no(sheet, k);
-        k += 1;
-        if edge.child == t {
-            if edge.column == c {
-                return true;
-            }
-        }
-    }
-    false
+        edge.child == t && edge.column == c
+    })
 }

@@ -39,7 +39,7 @@ fn fill_lawful(
     if !fill_sides::sides_fit(sheet, plan, run, starts, numbers) {
         return Answer::Refused(NO_ROOM);
     }
-    let list = store::part_of(plan, plan.tables);
+    let list = store::part_of(&plan, plan.tables);
     let added = fill_list::count_list(sheet, run, starts, numbers, plan.root);
     if list.room < added {
         return Answer::Refused(NO_ROOM);

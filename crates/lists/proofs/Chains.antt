@@ -95,3 +95,26 @@ first-from_find {n = n} t u f r end ran says = ap (unwrap_or r) (sym end) ∙ go
     go : (o : Option ℕ) → MatchOption o ((k : ℕ) → 0 ≤ k → k < n → t k ≡ false) (λ i. (0 ≤ i) × (i < n) × (t i ≡ true) × ((k : ℕ) → 0 ≤ k → k < i → t k ≡ false)) → unwrap_or o n ≡ first t n
     go None h = sym (first-none t n (none-below t n h))
     go (Some i) h = sym (first-at t i n h.1 (none-below t i h.3) h.2).1
+
+-- a test of the numbers below a + n: of those below a, and of n more from a on
+pub every-behind : (t : ℕ → Bool) (a n : ℕ) → every t (a + n) ≡ (every t a && every (λ j. t (a + j)) n)
+unfolding every
+every-behind t a zero = ap (every t) (sym (here a)) ∙ sym (and-right (every t a))
+every-behind t a (suc n) =
+    ap (every t) (back a n) ∙ ap (λ b. b && t (a + n)) (every-behind t a n) ∙ sym (and-assoc (every t a) (every (λ j. t (a + j)) n) (t (a + n)))
+  where
+    back : (a n : ℕ) → a + suc n ≡ suc (a + n)
+    back a n = omega arith
+
+every-range : (t : ℕ → Bool) (a n : ℕ) → list_all t (range_with_len a n) ≡ every (λ j. t (a + j)) n
+unfolding every
+every-range t a zero = refl
+every-range t a (suc n) = all-last t a n ∙ ap (λ b. b && t (a + n)) (every-range t a n)
+
+-- `(a..b).all(f)`
+pub every-from_range : {F : Type 0} {g : Mut F (ℕ × Unit {0}) Bool} {a b : ℕ} (t : ℕ → Bool) (u : Range ℕ) (f : F) (r : Bool)
+    → (xs : List ℕ) × (o : Option ℕ) × (j : F) × YieldsThen nat_range_steps (record { start = a; end = b }) xs o u
+    × FoldsTo (λ p x q. Called g p (x, tt) true q) f xs j × MatchOption o (r ≡ true) (λ x. (r ≡ false) × ((h : F) × Called g j (x, tt) false h))
+    → ((x : ℕ) (b : Bool) (q : F) → Called g f (x, tt) b q → (q ≡ f) × (b ≡ t x)) → r ≡ every (λ j. t (a + j)) (b - a)
+every-from_range {a = a} {b = b} t u f r ran says =
+    all_from_yields_List t u f r ran (YieldsList-from_range a b (b - a) refl refl) says ∙ every-range t a (b - a)

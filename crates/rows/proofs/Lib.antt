@@ -1,7 +1,6 @@
 pub mod Ordered
 pub mod Sorted
 pub mod Cut
-pub mod Columns
 pub mod Pairs
 pub mod Steps
 pub mod Search

@@ -2,15 +2,17 @@
 -- Assumes nothing.
 use Prim.Native.Nat.{ℕ, ◌<◌, ◌≤◌}
 use mathlib.Core.Path.{◌≡◌, refl, sym, ap, ap₂, ◌∙◌, subst}
-use mathlib.Core.Bool.{Bool, true, false, true≢false, false≢true}
+use mathlib.Core.Bool.{Bool, true, false, not, true≢false, false≢true}
 use mathlib.Core.List.{[], ◌∷◌}
 use mathlib.Core.Logic.{◌⊎◌, inl, inr, ⊎_elim}
 use native.Mathlib.Omega.{arith}
 use lib.Dec.{T, ltb, eqb, eqb→eq}
-use borrow.Author.Tests.{ltb-true, ltb-false, lt-ltb, le-ltb, eq-eqb, not-true}
+use borrow.Author.Tests.{ltb-true, ltb-false, lt-ltb, le-ltb, eq-eqb, ne_eqb, not-true}
 use Rattle.lists.proofs.Truth.{is_t, T→≡, F→≡, and-fst, and-snd}
 use Rattle.std.specs.declared.cmp.Ordering.{Ordering}
 use Rattle.std.specs.declared.cmp.Ordering.TheVariants.{Less, Equal, Greater}
+use Rattle.std.specs.Ordering.{is_eq, is_gt, is_ge, is_le, nat_cmp, ordering_then}
+use Rattle.std.specs.Cmp.Lexicographic.{slice_cmp}
 use Rattle.rows.specs.Rows.{Row, word_order, then_by, row_order, is_less, smaller, same_row, not_after}
 
 -- Words
@@ -227,3 +229,59 @@ antisym r s h k = neither-smaller r s (after-false s r k) (after-false r s h)
 
 pub itself : (r : Row) → T (not_after r r)
 itself r = false-after r r (smaller-itself r)
+
+-- std compares words and slices in this order
+word-is : (x y : ℕ) → nat_cmp x y ≡ word_order x y
+word-is x y = go (compared x y)
+  where
+    go : Compared x y → nat_cmp x y ≡ word_order x y
+    go (lt h) = rw (lt-ltb x y h, word-less x y h)
+    go (eq h) = rw (le-ltb x y (omega arith), eq-eqb x y h, word-equal x y h)
+    go (gt h) = rw (le-ltb x y (omega arith), ne_eqb x y (λ e. absurd (omega (arith, e, h))), word-greater x y h)
+
+then-is : (o q : Ordering) → ordering_then o q ≡ then_by o q
+unfolding then_by
+then-is Less q = refl
+then-is Equal q = refl
+then-is Greater q = refl
+
+pub cmp-is : (r s : Row) → slice_cmp nat_cmp r s ≡ row_order r s
+unfolding row_order
+cmp-is [] [] = refl
+cmp-is [] (y ∷ s) = refl
+cmp-is (x ∷ r) [] = refl
+cmp-is (x ∷ r) (y ∷ s) = ap₂ ordering_then (word-is x y) (cmp-is r s) ∙ then-is (word_order x y) (row_order r s)
+
+-- What the tests of an answer of `row_order` say
+module _ (r q : Row) where
+  pub behind-is : is_gt (row_order r q) ≡ smaller q r
+  behind-is = go (row_order r q) refl
+    where
+      go : (o : Ordering) → row_order r q ≡ o → is_gt o ≡ smaller q r
+      go Less e = sym (less-not-smaller r q e)
+      go Equal e = sym (equal-not-smaller r q e)
+      go Greater e = sym (greater-smaller r q e)
+
+  pub not-before-is : is_ge (row_order r q) ≡ not_after q r
+  not-before-is = go (row_order r q) refl
+    where
+      go : (o : Ordering) → row_order r q ≡ o → is_ge o ≡ not_after q r
+      go Less e = ap not (sym (less-smaller r q e))
+      go Equal e = sym (subst (λ (x : Row). not_after x r ≡ true) (order-equal r q e) (T→≡ (not_after r r) (itself r)))
+      go Greater e = ap not (sym (smaller-once q r (greater-smaller r q e)))
+
+  pub not-after-is : is_le (row_order r q) ≡ not_after r q
+  not-after-is = go (row_order r q) refl
+    where
+      go : (o : Ordering) → row_order r q ≡ o → is_le o ≡ not_after r q
+      go Less e = ap not (sym (less-not-smaller r q e))
+      go Equal e = ap not (sym (equal-not-smaller r q e))
+      go Greater e = ap not (sym (greater-smaller r q e))
+
+  pub same-is : is_eq (row_order r q) ≡ same_row r q
+  same-is = go (row_order r q) refl
+    where
+      go : (o : Ordering) → row_order r q ≡ o → is_eq o ≡ same_row r q
+      go Less e = sym (order-less-differs r q e)
+      go Equal e = sym (order_same r q e)
+      go Greater e = sym (order-greater-differs r q e)

@@ -8,7 +8,7 @@ use mathlib.Core.Logic.{inl, inr}
 use native.Mathlib.Omega.{arith}
 use lib.Dec.{T, ltb, eqb}
 use lib.ListN.{length, get_or}
-use borrow.Author.Tests.{ltb-true, ltb-false, le-ltb}
+use borrow.Author.Tests.{ltb-true, ltb-false, le-ltb, eq-eqb}
 use Rattle.lists.specs.Lists.{Words, at, Mem, any}
 use Rattle.lists.specs.Totals.{total, one}
 use Rattle.lists.proofs.Truth.{is_t, T→≡, F→≡, false→F, any-get, any-make, mem-get_or, eq→eqb, eqb→≡}
@@ -17,10 +17,12 @@ use Rattle.lists.proofs.Search.{Falls, many-le}
 use Rattle.std.specs.declared.cmp.Ordering.{Ordering}
 use Rattle.std.specs.declared.cmp.Ordering.TheVariants.{Less, Equal, Greater}
 use Rattle.std.specs.Prelude.{Some, None}
+use Rattle.std.specs.Bool.{then_some}
+use Rattle.std.specs.Ordering.{is_eq}
 use Rattle.rows.specs.Rows.{Row, Rows, key, cut, row_order, smaller, same_row, not_after, rising, has_row, has_key}
 use Rattle.rows.specs.Ranks.{rank, rank_after, times, rank_key, found_row, found_key}
 use Rattle.rows.specs.Words.{row}
-use Rattle.rows.proofs.Ordered.{itself, same→≡, ≡→same, order_same, order-less-differs, order-greater-differs, order-equal, smaller-itself}
+use Rattle.rows.proofs.Ordered.{itself, same-is, same→≡, ≡→same, order_same, order-less-differs, order-greater-differs, order-equal, smaller-itself}
 use Rattle.rows.proofs.Ordered.{neither-smaller, after-false, smaller-once, less-smaller, greater-smaller, less-not-smaller, equal-not-smaller}
 use Rattle.rows.proofs.Cut.{cut-length, cut_at}
 use Rattle.rows.proofs.Search.{rising-at, key-up, smaller-falls, not-after-falls, key-falls, passed-below, passed-above, failed-from, row-key}
@@ -146,18 +148,14 @@ module _ (w n k : ℕ) (r : Row) (s : Words) (u : T (rising (cut w n s))) (e : k
   pub find-end : n ≤ k → None ≡ found_row r (cut w n s)
   find-end h = found-no r (cut w n s) k u e (λ l q. omega (arith, cut-length w n s))
 
-  pub find-here : (o : Ordering) → k < n → o ≡ row_order r (row w k s) → o ≡ Equal → Some k ≡ found_row r (cut w n s)
-  find-here o l f g =
-      found-yes r (cut w n s) k e (rw cut-length l) (cut_at w n s k l ∙ sym (order-equal r (row w k s) (sym f ∙ g)))
-
   find-other : k < n → same_row r (row w k s) ≡ false → None ≡ found_row r (cut w n s)
   find-other l d = found-no r (cut w n s) k u e (λ m q. absurd (true≢false (sym (T→≡ _ (≡→same r (row w k s) (sym q ∙ cut_at w n s k l))) ∙ d)))
 
-  pub find-less : (o : Ordering) → k < n → o ≡ row_order r (row w k s) → o ≡ Less → None ≡ found_row r (cut w n s)
-  find-less o l f g = find-other l (order-less-differs r (row w k s) (sym f ∙ g))
-
-  pub find-greater : (o : Ordering) → k < n → o ≡ row_order r (row w k s) → o ≡ Greater → None ≡ found_row r (cut w n s)
-  find-greater o l f g = find-other l (order-greater-differs r (row w k s) (sym f ∙ g))
+  -- whether the row there equals r says whether r is there
+  pub find-there : (b : Bool) → k < n → b ≡ is_eq (row_order r (row w k s)) → then_some b k ≡ found_row r (cut w n s)
+  find-there true l f =
+      found-yes r (cut w n s) k e (rw cut-length l) (cut_at w n s k l ∙ sym (same→≡ r (row w k s) (is_t (sym (f ∙ same-is r (row w k s))))))
+  find-there false l f = find-other l (sym (f ∙ same-is r (row w k s)))
 
 -- `find_key`
 module _ (w n p k : ℕ) (s : Words) (u : T (rising (cut w n s))) (e : p ≡ rank_key k (cut w n s)) where
@@ -173,17 +171,16 @@ module _ (w n p k : ℕ) (s : Words) (u : T (rising (cut w n s))) (e : p ≡ ran
   pub key-end-missing : n ≤ p → None ≡ found_key k (cut w n s)
   key-end-missing h = key-no (λ l q. omega arith)
 
-  pub key_here : 0 < w → p < n → at s (p * w) ≡ k → Some p ≡ found_key k (cut w n s)
+  -- whether the key there is k says whether k is there
+  pub key-there : (b : Bool) → 0 < w → p < n → b ≡ eqb (at s (p * w)) k → then_some b p ≡ found_key k (cut w n s)
   unfolding found_key
-  key_here pos l q =
+  key-there true pos l f =
       let rows : Rows = cut w n s in
       let m : Mem (get_or rows p []) rows = mem-get_or [] rows p (rw cut-length l) in
-      let g : k ≡ key (get_or rows p []) = rw (cut_at w n s p l) (sym (row-key w p s pos ∙ q)) in
+      let g : k ≡ key (get_or rows p []) = rw (cut_at w n s p l) (sym (row-key w p s pos ∙ eqb→≡ _ _ (is_t (sym f)))) in
       let h : has_key k rows ≡ true = T→≡ (has_key k rows) (any-make (λ r. eqb k (key r)) rows (get_or rows p []) m (eq→eqb g)) in
       rw h (ap Some e)
-
-  pub key-other : 0 < w → (at s (p * w) ≡ k → ⊥) → None ≡ found_key k (cut w n s)
-  key-other pos f = key-no (λ l q. f (sym (row-key w p s pos) ∙ q))
+  key-there false pos l f = key-no (λ h q. true≢false (sym (eq-eqb _ _ (sym (row-key w p s pos) ∙ q)) ∙ sym f))
 
 -- What `find` and `find_key` say to their callers: i is the place, one of n, and what is looked for stands there
 pub record Standing (found : Bool) (k n : ℕ) (P : ℕ → Type 0) (i : ℕ) : Type 0 where

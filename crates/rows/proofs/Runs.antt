@@ -11,10 +11,13 @@ use native.Mathlib.Omega.{arith}
 use lib.Dec.{T, ltb, leb, eqb}
 use lib.ListN.{length, get_or, set, take, drop, length-append, length-drop, take-append-drop, get_or-append}
 use lib.Seq.{get_or-append-add, get_or-take, get_or-drop, length-take-le, set_at, take-suc, take-add, take-take, take_at, drop_at}
-use borrow.Author.Tests.{ltb-true, ltb-false, leb-true, leb-false, lt-ltb, le-ltb, le-leb, lt-leb, ne_eqb, eq-eqb}
+use borrow.Author.Tests.{ltb-true, ltb-false, leb-true, leb-false, lt-ltb, le-leb, ne_eqb, eq-eqb}
 use Rattle.lists.specs.Lists.{Words, at}
 use Rattle.lists.proofs.Truth.{F→≡, mem-get_or, member→Mem, Mem→member}
-use Rattle.lists.proofs.Search.{Falls, Bracket, bracket-up, bracket-down}
+use Rattle.lists.proofs.Search.{Falls, Bracket}
+use Rattle.std.specs.List.Sorted.{IsPartitionPoint, IsPartitionedBy}
+use Rattle.rows.specs.Ranks.{Edge}
+use Rattle.rows.proofs.Search.{edge_closed}
 use Rattle.rows.specs.Words.{raised}
 use Rattle.rows.specs.Marks.{is_marked, Numbers, Below, Gap, put_number}
 use Rattle.rows.proofs.Ranks.{mem-at}
@@ -46,11 +49,6 @@ pub get_or-there : {A : Type 0} (xs : List A) (j : ℕ) (d e : A) → j < length
 get_or-there [] j d e l = absurd (not-suc-le-zero l)
 get_or-there (x ∷ xs) zero d e l = refl
 get_or-there (x ∷ xs) (suc j) d e l = get_or-there xs j d e (le_of_suc-le-suc l)
-
--- a stretch of numbers that begins with `first` at place `before`: it reaches to lo, and it ends before hi
-pub record Stretch (numbers : Words) (first before lo hi : ℕ) : Type 0 where
-  pub from : before ≤ lo
-  pub bracket : Bracket (λ i. leb (at numbers i + before) (first + i)) (length numbers) lo hi
 
 module _ {n : ℕ} {numbers : Words} (r : Numbers n numbers) where
   rise-by : (d i : ℕ) → i + d < length numbers → at numbers i + d ≤ at numbers (i + d)
@@ -84,79 +82,66 @@ module _ {n : ℕ} {numbers : Words} (r : Numbers n numbers) where
           let k = ltb-false i j g in
           omega (arith, rise-apart j i k h, next-there j (omega arith))
 
-  -- The search for the place of x: the numbers below it come first
-  module _ (x : ℕ) where
-    below-falls : Falls (λ i. ltb (at numbers i) x) (length numbers)
-    below-falls i j h l e = lt-ltb (at numbers i) x (omega (arith, ltb-true (at numbers j) x e, rise-apart i j h l))
+  -- The numbers below x come first: how many they are, as std's search for them answers
+  pub below-parted : (x : ℕ) → IsPartitionedBy (λ m. ltb m x) numbers
+  below-parted x i j d h l e =
+      lt-ltb (get_or numbers i d) x (omega (
+        arith,
+        ltb-true (get_or numbers j d) x e,
+        rise-apart i j h l,
+        get_or-there numbers i d 0 (omega arith),
+        get_or-there numbers j d 0 l,
+      ))
 
-    module _ (lo hi m : ℕ) (b : Bracket (λ i. ltb (at numbers i) x) (length numbers) lo hi) (h : lo ≤ m) (l : m < hi) where
-      pub below_up : at numbers m < x → Bracket (λ i. ltb (at numbers i) x) (length numbers) (m + 1) hi
-      below_up e = bracket-up _ _ below-falls lo hi m b h l (lt-ltb (at numbers m) x e)
+  pub below-is : (x k : ℕ) → k ≤ length numbers → IsPartitionPoint (λ m. ltb m x ≡ true) (λ m. ltb m x ≡ false) numbers k → Below numbers x k
+  below-is x k h point =
+      record {
+        inside = h;
+        under = λ i l. ltb-true (at numbers i) x (point.0 i 0 (omega arith) l);
+        over = λ i g l. ltb-false (at numbers i) x (point.1 i 0 g l);
+      }
 
-      pub below-down : x ≤ at numbers m → Bracket (λ i. ltb (at numbers i) x) (length numbers) lo m
-      below-down e = bracket-down _ _ below-falls lo hi m b h l (le-ltb (at numbers m) x e)
-
-    pub below_end : (lo hi : ℕ) → Bracket (λ i. ltb (at numbers i) x) (length numbers) lo hi → hi ≤ lo → Below numbers x lo
-    below_end lo hi b h =
-        record {
-          inside = omega (arith, b.low, b.high);
-          under = λ i l. ltb-true (at numbers i) x (b.below i l);
-          over = λ i g l. ltb-false (at numbers i) x (b.above i (omega arith) l);
-        }
-
-  -- The search for the end of the stretch that begins at the place of `first`
+  -- The stretch that begins with `first` at its place ends where a number is greater than what would go on with it
   module _ (first before : ℕ) (be : Below numbers first before) where
-    within-falls : Falls (λ i. leb (at numbers i + before) (first + i)) (length numbers)
-    within-falls i j h l e =
-        le-leb (at numbers i + before) (first + i) (omega (arith, leb-true (at numbers j + before) (first + j) e, rise-apart i j h l))
+    unfoldable goes-on : ℕ → Bool
+    goes-on i = leb (at numbers (before + i)) (first + i)
 
-    pub stretch-start : Stretch numbers first before before (length numbers)
-    stretch-start =
+    goes-on-falls : Falls goes-on (length numbers - before)
+    unfolding goes-on
+    goes-on-falls i j h l e = le-leb (at numbers (before + i)) (first + i) (omega (
+      arith,
+      leb-true (at numbers (before + j)) (first + j) e,
+      rise-apart (before + i) (before + j) (omega arith) (omega arith),
+    ))
+
+    pub stretch-gap : {answers : ℕ → Bool → Type 0} (k : ℕ) → Edge answers (length numbers - before) k
+        → ((i : ℕ) (b : Bool) → i < length numbers - before → answers i b → b ≡ leb (at numbers (before + i)) (first + i))
+        → Gap numbers first (first + k) (before + k)
+    unfolding goes-on
+    stretch-gap k e says =
         record {
-          from = omega arith;
-          bracket = record {
-            low = be.inside;
-            high = omega arith;
-            below = λ i l. le-leb (at numbers i + before) (first + i) (early i l);
-            above = λ i h l. absurd (omega arith);
-          };
-        }
-      where
-        early : (i : ℕ) → i < before → at numbers i + before ≤ first + i
-        early i l = omega (
-          arith,
-          rise-apart i (before - 1) (omega arith) (omega (arith, be.inside)),
-          be.under (before - 1) (omega arith),
-        )
-
-    module _ (lo hi m : ℕ) (b : Stretch numbers first before lo hi) (h : lo ≤ m) (l : m < hi) where
-      pub stretch-up : at numbers m + before ≤ first + m → Stretch numbers first before (m + 1) hi
-      stretch-up e =
-          record {
-            from = omega (arith, b.from);
-            bracket = bracket-up _ _ within-falls lo hi m b.bracket h l (le-leb (at numbers m + before) (first + m) e);
-          }
-
-      pub stretch-down : first + m < at numbers m + before → Stretch numbers first before lo m
-      stretch-down e =
-          record { from = b.from; bracket = bracket-down _ _ within-falls lo hi m b.bracket h l (lt-leb (at numbers m + before) (first + m) e) }
-
-    pub stretch-gap : (lo hi : ℕ) → Stretch numbers first before lo hi → hi ≤ lo → Gap numbers first (first + (lo - before)) lo
-    stretch-gap lo hi s h =
-        let b = s.bracket in
-        record {
-          inside = omega (arith, b.low, b.high);
+          inside = omega (arith, b.high, be.inside);
           above = omega arith;
-          taken = λ i g l. marks i (before + (i - first)) g (omega arith) (omega (arith, b.low, b.high)) refl;
-          under = λ i l. omega (arith, leb-true (at numbers i + before) (first + i) (b.below i l), s.from);
-          over = λ i g l. omega (arith, leb-false (at numbers i + before) (first + i) (b.above i (omega arith) l), s.from);
+          taken = λ i g l. marks i (before + (i - first)) g refl (omega (arith, b.high, be.inside)) (leb-true _ _ (b.below (i - first) (omega arith)));
+          under = λ i l. low i (ltb i before) refl l;
+          over = λ i g l. let same : before + (i - before) ≡ i = omega arith in
+              omega (arith, ap (at numbers) same, leb-false _ _ (b.above (i - before) (omega arith) (omega arith)));
         }
       where
-        marks : (i q : ℕ) → first ≤ i → q < lo → lo ≤ length numbers → q ≡ before + (i - first) → T (is_marked numbers i)
-        marks i q g l k e =
-            let reach = leb-true (at numbers q + before) (first + q) (s.bracket.below q l) in
-            let is : at numbers q ≡ i = omega (arith, be.over before (omega arith) (omega arith), rise-apart before q (omega arith) (omega arith)) in
-            subst (λ (m : ℕ). T (is_marked numbers m)) is (number-marked numbers q (omega arith))
+        b : Bracket (λ i. leb (at numbers (before + i)) (first + i)) (length numbers - before) k k
+        b = edge_closed goes-on (length numbers - before) k goes-on-falls e says
+
+        marks : (i q : ℕ) → first ≤ i → q ≡ before + (i - first) → q < length numbers → at numbers q ≤ first + (i - first) → T (is_marked numbers i)
+        marks i q g e l reach =
+            let is : at numbers q ≡ i = omega (arith, be.over before (omega arith) (omega arith), rise-apart before q (omega arith) l) in
+            subst (λ (m : ℕ). T (is_marked numbers m)) is (number-marked numbers q l)
+
+        low : (i : ℕ) (c : Bool) → ltb i before ≡ c → i < before + k → at numbers i < first + k
+        low i true e l = omega (arith, be.under i (ltb-true i before e))
+        low i false e l =
+            let h = ltb-false i before e in
+            let same : before + (i - before) ≡ i = omega arith in
+            omega (arith, ap (at numbers) same, leb-true _ _ (b.below (i - before) (omega arith)))
 
 -- Runs: none, of more rows, one behind another, with a greater number at the end
 pub numbers-none : (n : ℕ) → Numbers n []

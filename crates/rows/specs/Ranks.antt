@@ -1,8 +1,7 @@
 -- How many rows stand before a row or a key, and how many equal it: what a search among rows answers.
 -- Assumes nothing.
-use Rattle.std.specs.Prelude.{ℕ, cond, ltb}
+use Rattle.std.specs.Prelude.{ℕ, ◌+◌, ◌<◌, ◌≤◌, ◌≡◌, Bool, true, false, cond, ltb, Option, Some, None}
 use Rattle.lists.specs.Totals.{total, one}
-use Rattle.std.specs.Prelude.{Option, Some, None}
 use Rattle.rows.specs.Rows.{Row, Rows, key, smaller, same_row, not_after, has_row, has_key}
 
 -- how many rows are smaller than r: where r stands among rising rows, or would stand
@@ -27,3 +26,9 @@ found_row r rows = cond (has_row r rows) (Some (rank r rows)) None
 
 unfoldable pub found_key : ℕ → Rows → Option ℕ
 found_key k rows = cond (has_key k rows) (Some (rank_key k rows)) None
+
+-- k is a number up to n: the test, given by its answers, holds at the number before k and fails at k
+pub record Edge (answers : ℕ → Bool → Type 0) (n k : ℕ) : Type 0 where
+  pub inside : k ≤ n
+  pub under : (i : ℕ) → i + 1 ≡ k → answers i true
+  pub over : k < n → answers k false

@@ -1,10 +1,10 @@
--- The tests of refusals 1 and 2 as facts, both ways.
+-- The tests of refusals 1 and 2 as facts.
 -- Assumes nothing.
 use Prim.Native.Nat.{ℕ, ◌+◌, ◌<◌}
 use mathlib.Core.Path.{◌≡◌, refl, sym, ap, ap₂, ◌∙◌}
 use mathlib.Core.Bool.{Bool, true, false, not, ◌&&◌, and_assoc}
-use lib.Dec.{leb, leb-zero}
-use borrow.Author.Tests.{leb-true, ltb-true, eqb-true, le-leb, lt-ltb, eq-eqb}
+use lib.Dec.{leb}
+use borrow.Author.Tests.{leb-true, ltb-true, eqb-true}
 use Rattle.lists.specs.Lists.{Words, between, all, none_twice}
 use Rattle.lists.specs.Loops.{every, some}
 use Rattle.lists.proofs.Loops.{and-true, every-at}
@@ -12,7 +12,7 @@ use Rattle.meaning.specs.Limits.{most_columns, most_room}
 use Rattle.meaning.specs.Sheet.{table_count, edge_count, condition_count, listed_count, sheet_of, has_column, width}
 use Rattle.meaning.specs.Sheet.{good_counts, good_edge, good_condition, good_listed, good_words, same_listed}
 use Rattle.sheet.specs.Numbered.{edge_no, condition_no, listing_no, width_no, room_no}
-use Rattle.sheet.specs.Rules.{Counts, InRange, Column, EdgeRules, ConditionRules, ListingRules, Named, Rules}
+use Rattle.sheet.specs.Rules.{Counts, InRange, Column, EdgeRules, ConditionRules, ListingRules, Rules}
 use Rattle.sheet.specs.Tests.{width_passes, edge_passes, condition_passes, listing_passes, listing_names, room_passes}
 use Rattle.sheet.proofs.Words.{n-is, width_is, widths-are, edges_are, conditions-are, listed-are, rooms-are}
 use Rattle.sheet.proofs.Numbers.{all_up, none-twice-up, every-and}
@@ -37,28 +37,11 @@ counts-facts ws h =
       length-right = eqb-true _ _ a.1;
     }
 
-pub counts-make : (ws : Words) → Counts ws → true ≡ good_counts ws
-unfolding good_counts
-counts-make ws h =
-    rw (
-      le-leb _ _ h.tables-some,
-      le-leb _ _ h.tables-few,
-      eq-eqb _ _ h.edges-right,
-      leb-zero (condition_count ws),
-      le-leb _ _ h.conditions-few,
-      le-leb _ _ h.listed-some,
-      le-leb _ _ h.listed-few,
-      eq-eqb _ _ h.length-right,
-    )
-
 pub column-facts : (ws : Words) (t column : ℕ) → has_column (sheet_of ws) t column ≡ true → Column ws t column
 column-facts ws t column h =
     let a = and-true _ _ h in
     let l : t < table_count ws = rw n-is at (ltb-true t (sheet_of ws).n a.0) in
     record { table = l; within = rw (width_is ws t l) at (ltb-true column (width (sheet_of ws) t) a.1) }
-
-pub column-make : (ws : Words) (t column : ℕ) → Column ws t column → true ≡ has_column (sheet_of ws) t column
-column-make ws t column h = rw (n-is ws, lt-ltb _ _ h.table, width_is ws t h.table, lt-ltb _ _ h.within)
 
 pub edge-facts : (ws : Words) (i : ℕ) → edge_passes ws i ≡ true → EdgeRules ws i
 unfolding edge_passes good_edge
@@ -73,18 +56,9 @@ edge-facts ws i h =
       promise-small = leb-true _ _ a.1;
     }
 
-pub edge-make : (ws : Words) (i : ℕ) → EdgeRules ws i → true ≡ edge_passes ws i
-unfolding edge_passes good_edge
-edge-make ws i h =
-    rw (sym (column-make _ _ _ h.there), le-leb _ _ h.not_key, n-is ws, lt-ltb _ _ h.parent_in, le-leb _ _ h.promise-small)
-
 pub condition-facts : (ws : Words) (i : ℕ) → condition_passes ws i ≡ true → ConditionRules ws i
 unfolding condition_passes good_condition
 condition-facts ws i h = let a = and-true _ _ h in record { there = column-facts _ _ _ a.0; ordered = leb-true _ _ a.1 }
-
-pub condition-make : (ws : Words) (i : ℕ) → ConditionRules ws i → true ≡ condition_passes ws i
-unfolding condition_passes good_condition
-condition-make ws i h = rw (sym (column-make _ _ _ h.there), le-leb _ _ h.ordered)
 
 pub listing-facts : (ws : Words) (i : ℕ) → listing_passes ws i ≡ true → ListingRules ws i
 unfolding listing_passes good_listed
@@ -97,28 +71,13 @@ listing-facts ws i h = let a = and-true _ _ h in record { there = column-facts _
 within-facts : (lowest highest x : ℕ) → between lowest highest x ≡ true → InRange lowest highest x
 within-facts lowest highest x h = let a = and-true _ _ h in record { low = leb-true _ _ a.0; high = leb-true _ _ a.1 }
 
-within-make : (lowest highest x : ℕ) → InRange lowest highest x → true ≡ between lowest highest x
-within-make lowest highest x h = rw (le-leb _ _ h.low, le-leb _ _ h.high)
-
 pub width-facts : (ws : Words) (t : ℕ) → width_passes ws t ≡ true → InRange 1 most_columns (width_no ws t)
 unfolding width_passes
 width-facts ws t h = within-facts _ _ _ h
 
-pub width-make : (ws : Words) (t : ℕ) → InRange 1 most_columns (width_no ws t) → true ≡ width_passes ws t
-unfolding width_passes
-width-make ws t h = within-make _ _ _ h
-
 pub room-facts : (ws : Words) (part : ℕ) → room_passes ws part ≡ true → InRange 0 most_room (room_no ws part)
 unfolding room_passes
 room-facts ws part h = within-facts _ _ _ h
-
-pub room-make : (ws : Words) (part : ℕ) → InRange 0 most_room (room_no ws part) → true ≡ room_passes ws part
-unfolding room_passes
-room-make ws part h = within-make _ _ _ h
-
-pub named-facts : (ws : Words) (t c i : ℕ) → listing_names ws t c i ≡ true → Named ws t c i
-unfolding listing_names
-named-facts ws t c i h = let a = and-true _ _ h in record { table = eqb-true _ _ a.0; column = eqb-true _ _ a.1 }
 
 -- all of refusal 2, by number
 pub words_are : (ws : Words) → Counts ws → good_words (sheet_of ws)

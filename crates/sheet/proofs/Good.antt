@@ -6,7 +6,7 @@ use mathlib.Core.Bool.{Bool, true, false, cond, ◌&&◌}
 use native.Mathlib.Omega.{arith}
 use lib.Dec.{eqb, leb}
 use lib.ListN.{length}
-use borrow.Author.Tests.{eqb-true, eqb-false}
+use borrow.Author.Tests.{eqb-true}
 use Rattle.lists.specs.Lists.{Words, at, Mem, all, select, up_to}
 use Rattle.lists.specs.Loops.{every}
 use Rattle.lists.proofs.Loops.{and-true}
@@ -22,8 +22,11 @@ use Rattle.sheet.proofs.Numbers.{all-up_to, length-up_to}
 use Rattle.sheet.proofs.Words.{n-is}
 use Rattle.sheet.proofs.Facts.{counts-facts, rules}
 use Rattle.sheet.specs.Tree.{one_into, root_no, reached_no, GoodSheet}
-use Rattle.sheet.specs.Verdicts.{verdict_of, verdict_number}
-use Rattle.sheet.specs.declared.Verdict.TheVariants.{Good, Refused}
+use Rattle.std.specs.Prelude.{Result, Ok, Err, ⊤}
+use Rattle.sheet.specs.declared.refusal.Refusal.{Refusal}
+use Rattle.sheet.specs.declared.refusal.Refusal.TheVariants.{BadCounts, BadWords, NoTree}
+use Rattle.sheet.specs.Refusals.{refusal_number, refusal_of, number_of}
+use Rattle.sheet.specs.Verdicts.{verdict_of}
 use Rattle.sheet.proofs.Into.{joined}
 
 -- all of refusal 3, by number
@@ -46,50 +49,44 @@ tree-are ws r =
     last = omega (arith, n-is ws, r.counts.edges-right)
 
 module _ (ws : Words) where
-  pub refused-counts : good_counts ws ≡ false → Refused 1 ≡ verdict_of ws
+  pub refused-counts : good_counts ws ≡ false → Err BadCounts ≡ verdict_of ws
   unfolding verdict_of sheet_refusal
   refused-counts a = rw a
 
-  pub refused-words : good_counts ws ≡ true → good_words (sheet_of ws) ≡ false → Refused 2 ≡ verdict_of ws
+  pub refused-words : good_counts ws ≡ true → good_words (sheet_of ws) ≡ false → Err BadWords ≡ verdict_of ws
   unfolding verdict_of sheet_refusal
   refused-words a b = rw (a, b)
 
-  pub refused-tree : good_counts ws ≡ true → good_words (sheet_of ws) ≡ true → good_tree (sheet_of ws) ≡ false → Refused 3 ≡ verdict_of ws
+  pub refused-tree : good_counts ws ≡ true → good_words (sheet_of ws) ≡ true → good_tree (sheet_of ws) ≡ false → Err NoTree ≡ verdict_of ws
   unfolding verdict_of sheet_refusal
   refused-tree a b c = rw (a, b, c)
 
-  pub passed : good_counts ws ≡ true → good_words (sheet_of ws) ≡ true → good_tree (sheet_of ws) ≡ true → Good ≡ verdict_of ws
+  pub passed : good_counts ws ≡ true → good_words (sheet_of ws) ≡ true → good_tree (sheet_of ws) ≡ true → Ok tt ≡ verdict_of ws
   unfolding verdict_of sheet_refusal
   passed a b c = rw (a, b, c)
 
-  -- a verdict is good exactly if the refusal is 0, and its number is the refusal
-  pub good-zero : verdict_of ws ≡ Good → sheet_refusal ws ≡ 0
-  unfolding verdict_of
-  good-zero h = go (eqb (sheet_refusal ws) 0) refl h
+  -- a verdict's number is the refusal's, and 0 if the sheet is good
+  pub number_is : number_of (verdict_of ws) ≡ sheet_refusal ws
+  unfolding verdict_of sheet_refusal
+  number_is = go (good_counts ws) (good_words (sheet_of ws)) (good_tree (sheet_of ws))
     where
-      go : (b : Bool) → eqb (sheet_refusal ws) 0 ≡ b → cond b Good (Refused (sheet_refusal ws)) ≡ Good → sheet_refusal ws ≡ 0
-      go true e q = eqb-true _ _ e
-      go false e q = absurd (let z : ◌≡◌ {A = ℕ} 0 1 = cc in omega arith)
+      go : (a b c : Bool)
+          → let k = unless a 1 (unless b 2 (unless c 3 0)) in
+          number_of (cond {A = Result ⊤ Refusal} (eqb k 0) (Ok tt) (Err (refusal_of k))) ≡ k
+      go true true true = refl
+      go true true false = refl
+      go true false c = refl
+      go false b c = refl
 
-  pub zero-good : sheet_refusal ws ≡ 0 → verdict_of ws ≡ Good
+  pub good-zero : (x : ⊤) → verdict_of ws ≡ Ok x → sheet_refusal ws ≡ 0
+  good-zero x h = sym number_is ∙ ap number_of h
+
+  pub zero-good : sheet_refusal ws ≡ 0 → verdict_of ws ≡ Ok tt
   unfolding verdict_of
   zero-good h = rw h
 
-  pub refused-is : (k : ℕ) → verdict_of ws ≡ Refused k → (sheet_refusal ws ≡ k) × (k ≡ 0 → ⊥)
-  unfolding verdict_of
-  refused-is k h = go (eqb (sheet_refusal ws) 0) refl h
-    where
-      go : (b : Bool) → eqb (sheet_refusal ws) 0 ≡ b → cond b Good (Refused (sheet_refusal ws)) ≡ Refused k → (sheet_refusal ws ≡ k) × (k ≡ 0 → ⊥)
-      go true e q = absurd (let z : ◌≡◌ {A = ℕ} 0 1 = cc in omega arith)
-      go false e q = let r : sheet_refusal ws ≡ k = cc in (r, λ z. eqb-false _ _ e (r ∙ z))
-
-  pub number_is : verdict_number (verdict_of ws) ≡ sheet_refusal ws
-  unfolding verdict_of
-  number_is = go (eqb (sheet_refusal ws) 0) refl
-    where
-      go : (b : Bool) → eqb (sheet_refusal ws) 0 ≡ b → verdict_number (cond b Good (Refused (sheet_refusal ws))) ≡ sheet_refusal ws
-      go true e = sym (eqb-true _ _ e)
-      go false e = refl
+  pub refused-is : (r : Refusal) → verdict_of ws ≡ Err r → sheet_refusal ws ≡ refusal_number r
+  refused-is r h = sym number_is ∙ ap number_of h
 
   -- the three tests that a good sheet passes
   pub good-tests : sheet_refusal ws ≡ 0 → (good_counts ws ≡ true) × ((good_words (sheet_of ws) ≡ true) × (good_tree (sheet_of ws) ≡ true))

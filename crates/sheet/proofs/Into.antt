@@ -8,7 +8,7 @@ use native.Mathlib.Numerals.{sub-one}
 use native.Mathlib.Omega.{arith}
 use lib.Dec.{eqb-suc-zero}
 use lib.ListN.{length}
-use borrow.Author.Tests.{le-leb, lt-leb, eq-eqb, ne_eqb, leb-true}
+use borrow.Author.Tests.{leb-true}
 use Rattle.lists.specs.Lists.{Words, select}
 use Rattle.lists.specs.Loops.{every, first}
 use Rattle.lists.proofs.Loops.{every-at}
@@ -18,7 +18,7 @@ use Rattle.sheet.specs.Numbered.{edge_no}
 use Rattle.sheet.specs.Rules.{Rules}
 use Rattle.sheet.proofs.Numbers.{length_up, select-none, select-first, found, not_found}
 use Rattle.sheet.proofs.Words.{edges_are}
-use Rattle.sheet.specs.Tree.{goes_no, one_into, root_no, reached_no, Joined}
+use Rattle.sheet.specs.Tree.{goes_no, one_into, reached_no, Joined}
 
 -- how many there are
 pub into-many : (ws : Words) (t : ℕ) → length (edges_into (sheet_of ws) t) ≡ counted (goes_no ws t) (edge_count ws)
@@ -59,23 +59,6 @@ module _ (ws : Words) (t i : ℕ) (e : i ≡ first (goes_no ws t) (edge_count ws
   unfolding reached_no
   reached-on zero b z l h q = absurd (z refl)
   reached-on (suc left) b z l h q = rw (into-only l h, or-false, ← sub-one (suc left)) q
-
--- the tests of one table
-pub one-into-more : (ws : Words) (t k : ℕ) → k ≡ counted (goes_no ws t) (edge_count ws) → k ≤ 1 → one_into ws t ≡ true
-unfolding one_into
-one-into-more ws t k e h = le-leb (length (edges_into (sheet_of ws) t)) 1 (omega (arith, into-many ws t))
-
-pub one-into-fails : (ws : Words) (t k : ℕ) → k ≡ counted (goes_no ws t) (edge_count ws) → 1 < k → one_into ws t ≡ false
-unfolding one_into
-one-into-fails ws t k e h = lt-leb (length (edges_into (sheet_of ws) t)) 1 (omega (arith, into-many ws t))
-
-pub root-hit : (ws : Words) (t k : ℕ) → k ≡ counted (goes_no ws t) (edge_count ws) → k ≡ 0 → root_no ws t ≡ true
-unfolding root_no
-root-hit ws t k e h = eq-eqb _ _ (into-many ws t ∙ sym e ∙ h)
-
-pub root-miss : (ws : Words) (t k : ℕ) → k ≡ counted (goes_no ws t) (edge_count ws) → (k ≡ 0 → ⊥) → root_no ws t ≡ false
-unfolding root_no
-root-miss ws t k e h = ne_eqb _ _ (λ z. h (e ∙ sym (into-many ws t) ∙ z))
 
 pub joined : (ws : Words) → Rules ws → every (one_into ws) (table_count ws) ≡ true → Joined ws
 unfolding one_into

@@ -168,9 +168,6 @@ module _ {A : Type 0} (p : A → Bool) (f : ℕ → A) where
 pub all-up_to : (p : ℕ → Bool) (k : ℕ) → all p (up_to k) ≡ every p k
 all-up_to p k = ap (all p) (sym (map-id (up_to k))) ∙ all_up p (λ i. i) k
 
-pub any-up_to : (p : ℕ → Bool) (k : ℕ) → any p (up_to k) ≡ some p k
-any-up_to p k = ap (any p) (sym (map-id (up_to k))) ∙ any-up p (λ i. i) k
-
 pub length-up_to : (p : ℕ → Bool) (k : ℕ) → length (select p (up_to k)) ≡ counted p k
 length-up_to p k = ap (λ (l : List ℕ). length (select p l)) (sym (map-id (up_to k))) ∙ length_up p (λ i. i) k
 

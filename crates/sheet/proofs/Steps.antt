@@ -1,44 +1,31 @@
--- The ways through `edge_ok`, `condition_ok` and `listing_ok`, said of words and numbers.
+-- What a record that was read says of its test: an edge's, a condition's and a listing's fields in place of the sheet's words.
 -- Assumes nothing.
-use Prim.Native.Nat.{ℕ, ◌<◌, ◌≤◌}
-use mathlib.Core.Path.{◌≡◌, sym, ap₂, ◌∙◌}
-use mathlib.Core.Bool.{Bool, true, false, and-false}
+use Prim.Native.Nat.{ℕ}
+use mathlib.Core.Path.{◌≡◌}
+use mathlib.Core.Bool.{not, ◌&&◌}
+use lib.Dec.{leb, ltb}
 use Rattle.lists.specs.Lists.{Words}
-use Rattle.lists.specs.Loops.{first}
-use Rattle.meaning.specs.Sheet.{sheet_of, has_column, good_edge, good_condition, good_listed}
-use Rattle.sheet.specs.Numbered.{edge_no, condition_no, listing_no}
+use Rattle.lists.specs.Loops.{some}
+use Rattle.meaning.specs.Sheet.{sheet_of, table_count, has_column, good_edge, good_condition, good_listed}
+use Rattle.sheet.specs.declared.reading.Edge.{Edge}
+use Rattle.sheet.specs.declared.reading.Condition.{Condition}
+use Rattle.sheet.specs.declared.reading.Listing.{Listing}
+use Rattle.sheet.specs.Read.{ReadsEdge, ReadsCondition, ReadsListing}
 use Rattle.sheet.specs.Tests.{edge_passes, condition_passes, listing_names, listing_passes}
-use Rattle.sheet.proofs.Numbers.{found, not_found}
-
--- a column that was read is the one that the sheet names
-pub column-read : (ws : Words) (t u column named : ℕ) (b : Bool) → t ≡ u → column ≡ named
-    → b ≡ has_column (sheet_of ws) t column → has_column (sheet_of ws) u named ≡ b
-column-read ws t u column named b p q e = sym (e ∙ ap₂ (has_column (sheet_of ws)) p q)
+use Rattle.sheet.proofs.Words.{n-is}
 
 module _ (ws : Words) (k : ℕ) where
-  pub edge-absent : has_column (sheet_of ws) (edge_no ws k).child (edge_no ws k).column ≡ false → false ≡ edge_passes ws k
+  pub edge-test : {e : Edge} → ReadsEdge ws k e
+      → edge_passes ws k ≡ (has_column (sheet_of ws) e.child e.column && leb 1 e.column && ltb e.parent (table_count ws) && leb e.promise 1)
   unfolding edge_passes good_edge
-  edge-absent h = rw h
+  edge-test r = rw (← r.child-is, ← r.column-is, ← r.parent_is, ← r.promise-is, n-is ws)
 
-  pub condition-absent : has_column (sheet_of ws) (condition_no ws k).table (condition_no ws k).column ≡ false → false ≡ condition_passes ws k
+  pub condition-test : {d : Condition} → ReadsCondition ws k d
+      → condition_passes ws k ≡ (has_column (sheet_of ws) d.table d.column && leb d.lowest d.highest)
   unfolding condition_passes good_condition
-  condition-absent h = rw h
+  condition-test r = rw (← r.table_is, ← r.column-is, ← r.lowest-is, ← r.highest-is)
 
-  pub listing-absent : has_column (sheet_of ws) (listing_no ws k).table (listing_no ws k).column ≡ false → false ≡ listing_passes ws k
+  pub listing-test : {l : Listing} → ReadsListing ws k l
+      → listing_passes ws k ≡ (has_column (sheet_of ws) l.table l.column && not (some (listing_names ws l.table l.column) k))
   unfolding listing_passes good_listed
-  listing-absent h = rw h
-
-  pub listing-again : (t c i : ℕ) → t ≡ (listing_no ws k).table → c ≡ (listing_no ws k).column
-      → i ≡ first (listing_names ws t c) k → i < k → false ≡ listing_passes ws k
-  unfolding listing_passes
-  listing-again t c i p q x h =
-      let e = x ∙ ap₂ (λ (a b : ℕ). first (listing_names ws a b) k) p q in
-      rw (found _ k i e h) (sym (and-false (good_listed (sheet_of ws) (listing_no ws k))))
-
-  pub listing-passes : (t c i : ℕ) → t ≡ (listing_no ws k).table → c ≡ (listing_no ws k).column
-      → has_column (sheet_of ws) (listing_no ws k).table (listing_no ws k).column ≡ true → i ≡ first (listing_names ws t c) k
-      → k ≤ i → true ≡ listing_passes ws k
-  unfolding listing_passes good_listed
-  listing-passes t c i p q there x h =
-      let e = x ∙ ap₂ (λ (a b : ℕ). first (listing_names ws a b) k) p q in
-      rw (there, not_found _ k i e h)
+  listing-test r = rw (← r.table_is, ← r.column-is)

@@ -4,4 +4,5 @@ pub mod Tests
 pub mod Rules
 pub mod Read
 pub mod Tree
+pub mod Refusals
 pub mod Verdicts

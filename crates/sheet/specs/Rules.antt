@@ -43,11 +43,6 @@ pub record ListingRules (ws : Words) (i : ℕ) : Type 0 where
   pub there : Column ws (listing_no ws i).table (listing_no ws i).column
   pub new : some (listing_names ws (listing_no ws i).table (listing_no ws i).column) i ≡ false
 
--- listing i names column c of table t
-pub record Named (ws : Words) (t c i : ℕ) : Type 0 where
-  pub table : (listing_no ws i).table ≡ t
-  pub column : (listing_no ws i).column ≡ c
-
 -- all of refusals 1 and 2
 pub record Rules (ws : Words) : Type 0 where
   pub counts : Counts ws

@@ -3,54 +3,36 @@
 
 mod limits;
 mod reading;
+mod refusal;
 mod rules;
 mod tree;
 
 ghost use Rattle.std.specs.Prelude.{◌≡◌};
-ghost use Rattle.sheet.specs.Verdicts.{verdict_of, verdict_number};
+ghost use Rattle.sheet.specs.Verdicts.{verdict_of};
 
-pub use limits::{
-    ALTERS_TIED, BAD_BASE, BAD_CHANGE, BAD_COUNTS, BAD_WORDS, COLUMNS, CONDITIONS, CONTRADICTION,
-    LISTED, NO_ROOM, NO_SUCH_PART, NO_TREE, NOT_SOUND, PARTS, PLACES, ROOM, ROWS, SHEET_WORDS,
-    TABLES, WRONG_LENGTH,
-};
+pub use limits::{COLUMNS, CONDITIONS, LISTED, PARTS, PLACES, ROOM, ROWS, SHEET_WORDS, TABLES};
 pub use reading::{
     Condition, Edge, Listing, condition_no, conditions, edge_no, edges, listed, listing_no,
     room_no, tables, width_no,
 };
+pub use refusal::{Refusal, number_of};
 use rules::{counts_ok, words_ok};
 pub use rules::{has_column, listing_of};
 pub use tree::edge_into;
 use tree::tree_ok;
 
-#[derive(Clone, Copy)]
-pub enum Verdict {
-    Good,
-    Refused(u64),
-}
-
 // The check of a sheet.
-pub fn verdict_of(sheet: &[u64]) -> Verdict
+pub fn verdict_of(sheet: &[u64]) -> Result<(), Refusal>
     ensures { result ≡ verdict_of sheet.now }
 {
     if !counts_ok(sheet) {
-        return Verdict::Refused(BAD_COUNTS);
+        return Err(Refusal::BadCounts);
     }
     if !words_ok(sheet) {
-        return Verdict::Refused(BAD_WORDS);
+        return Err(Refusal::BadWords);
     }
     if !tree_ok(sheet) {
-        return Verdict::Refused(NO_TREE);
+        return Err(Refusal::NoTree);
     }
-    Verdict::Good
-}
-
-// Document 01's number of a verdict on a sheet: 0 for a good one.
-pub fn number_of(v: Verdict) -> u64
-    ensures { result ≡ verdict_number v }
-{
-    match v {
-        Verdict::Good => 0,
-        Verdict::Refused(k) => k,
-    }
+    Ok(())
 }

@@ -1,4 +1,4 @@
-// Document 01's limits and the numbers of its refusals, each by one name.
+// Document 01's limits, each by one name.
 
 pub const TABLES: usize = 8;
 
@@ -17,25 +17,3 @@ pub const PLACES: usize = TABLES * COLUMNS;
 pub const PARTS: usize = TABLES + 1;
 // the words of the longest sheet: its counts, widths, edges, conditions, listed columns and rooms
 pub const SHEET_WORDS: usize = 4 + TABLES + 4 * (TABLES - 1) + 4 * CONDITIONS + 2 * LISTED + PARTS;
-
-pub const BAD_COUNTS: u64 = 1;
-
-pub const BAD_WORDS: u64 = 2;
-
-pub const NO_TREE: u64 = 3;
-
-pub const WRONG_LENGTH: u64 = 4;
-
-pub const BAD_CHANGE: u64 = 5;
-
-pub const NO_SUCH_PART: u64 = 5;
-
-pub const ALTERS_TIED: u64 = 6;
-
-pub const NOT_SOUND: u64 = 7;
-
-pub const CONTRADICTION: u64 = 8;
-
-pub const NO_ROOM: u64 = 9;
-
-pub const BAD_BASE: u64 = 10;

@@ -14,35 +14,15 @@ use crate::reading::{
 pub fn counts_ok(sheet: &[u64]) -> bool
     ensures { result ≡ good_counts sheet.now }
 {
-    if sheet.len() < 4 {
+    let &[n, e, c, p, ..] = sheet else {
         return false;
-    }
-    let n = sheet[0] as usize;
-    let e = sheet[1] as usize;
-    let c = sheet[2] as usize;
-    let p = sheet[3] as usize;
-    if n < 1 {
-        return false;
-    }
-    if TABLES < n {
-        return false;
-    }
-    if e != n - 1 {
-        return false;
-    }
-    if CONDITIONS < c {
-        return false;
-    }
-    if p < 1 {
-        return false;
-    }
-    if LISTED < p {
-        return false;
-    }
-    if sheet.len() != 4 + 2 * n + 1 + 4 * e + 4 * c + 2 * p {
-        return false;
-    }
-    true
+    };
+    let (n, e, c, p) = (n as usize, e as usize, c as usize, p as usize);
+    (1..=TABLES).contains(&n)
+        && e == n - 1
+        && c <= CONDITIONS
+        && (1..=LISTED).contains(&p)
+        && sheet.len() == 4 + 2 * n + 1 + 4 * e + 4 * c + 2 * p
 }
 
 // Whether every table has a column, and not too many.
@@ -50,19 +30,7 @@ fn widths_ok(sheet: &[u64]) -> bool
     requires { Counts sheet.now }
     ensures { result ≡ every (width_passes sheet.now) (table_count sheet.now) }
 {
-    let n = tables(sheet);
-    let mut t = 0;
-    while t < n {
-        let w = width_no(sheet, t);
-        if w < 1 {
-            return false;
-        }
-        if COLUMNS < w {
-            return false;
-        }
-        t += 1;
-    }
-    true
+    (0..tables(sheet)).all(|t| (1..=COLUMNS).contains(&width_no(sheet, t)))
 }
 
 // Whether table t has a column of this number.
@@ -70,13 +38,7 @@ pub fn has_column(sheet: &[u64], t: usize, column: usize) -> bool
     requires { Counts sheet.now }
     ensures { result ≡ has_column (sheet_of sheet.now) t column }
 {
-    if tables(sheet) <= t {
-        return false;
-    }
-    if width_no(sheet, t) <= column {
-        return false;
-    }
-    true
+    t < tables(sheet) && column < width_no(sheet, t)
 }
 
 fn edge_ok(sheet: &[u64], k: usize) -> bool
@@ -85,19 +47,10 @@ fn edge_ok(sheet: &[u64], k: usize) -> bool
     ensures { result ≡ edge_passes sheet.now k }
 {
     let e = edge_no(sheet, k);
-    if !has_column(sheet, e.child, e.column) {
-        return false;
-    }
-    if e.column < 1 {
-        return false;
-    }
-    if tables(sheet) <= e.parent {
-        return false;
-    }
-    if 1 < e.promise {
-        return false;
-    }
-    true
+    has_column(sheet, e.child, e.column)
+        && 1 <= e.column
+        && e.parent < tables(sheet)
+        && e.promise <= 1
 }
 
 fn edges_ok(sheet: &[u64]) -> bool
@@ -113,29 +66,14 @@ fn condition_ok(sheet: &[u64], k: usize) -> bool
     ensures { result ≡ condition_passes sheet.now k }
 {
     let d = condition_no(sheet, k);
-    if !has_column(sheet, d.table, d.column) {
-        return false;
-    }
-    if d.highest < d.lowest {
-        return false;
-    }
-    true
+    has_column(sheet, d.table, d.column) && d.lowest <= d.highest
 }
 
 fn conditions_ok(sheet: &[u64]) -> bool
     requires { Counts sheet.now }
     ensures { result ≡ every (condition_passes sheet.now) (condition_count sheet.now) }
 {
-    let c = conditions(sheet);
-    let mut k = 0;
-    while k < c {
-        if condition_ok(sheet, k) {
-            k += 1;
-        } else {
-            return false;
-        }
-    }
-    true
+    (0..conditions(sheet)).all(|k| condition_ok(sheet, k))
 }
 
 // Whether listing k names column c of table t.
@@ -145,10 +83,7 @@ fn names_column(sheet: &[u64], k: usize, t: usize, c: usize) -> bool
     ensures { result ≡ listing_names sheet.now t c k }
 {
     let l = listing_no(sheet, k);
-    if l.table != t {
-        return false;
-    }
-    l.column == c
+    l.table == t && l.column == c
 }
 
 // The first of the listings below m that names column c of table t, or m where none does.
@@ -157,14 +92,7 @@ pub fn listing_of(sheet: &[u64], t: usize, c: usize, m: usize) -> usize
     requires m_bound { m ≤ listed_count sheet.now }
     ensures { result ≡ first (listing_names sheet.now t c) m }
 {
-    let mut k = 0;
-    while k < m {
-        if names_column(sheet, k, t, c) {
-            return k;
-        }
-        k += 1;
-    }
-    m
+    (0..m).find(|&k| names_column(sheet, k, t, c)).unwrap_or(m)
 }
 
 // Listing k names a column that is there and that no listing before it names.
@@ -174,29 +102,15 @@ fn listing_ok(sheet: &[u64], k: usize) -> bool
     ensures { result ≡ listing_passes sheet.now k }
 {
     let l = listing_no(sheet, k);
-    if !has_column(sheet, l.table, l.column) {
-        return false;
-    }
-    if listing_of(sheet, l.table, l.column, k) < k {
-        return false;
-    }
-    true
+    has_column(sheet, l.table, l.column)
+        && !(0..k).any(|j| names_column(sheet, j, l.table, l.column))
 }
 
 fn listings_ok(sheet: &[u64]) -> bool
     requires { Counts sheet.now }
     ensures { result ≡ every (listing_passes sheet.now) (listed_count sheet.now) }
 {
-    let p = listed(sheet);
-    let mut k = 0;
-    while k < p {
-        if listing_ok(sheet, k) {
-            k += 1;
-        } else {
-            return false;
-        }
-    }
-    true
+    (0..listed(sheet)).all(|k| listing_ok(sheet, k))
 }
 
 // Whether no part's room is too large.
@@ -204,15 +118,7 @@ fn rooms_ok(sheet: &[u64]) -> bool
     requires { Counts sheet.now }
     ensures { result ≡ every (room_passes sheet.now) (table_count sheet.now + 1) }
 {
-    let m = tables(sheet) + 1;
-    let mut part = 0;
-    while part < m {
-        if ROOM < room_no(sheet, part) {
-            return false;
-        }
-        part += 1;
-    }
-    true
+    (0..tables(sheet) + 1).all(|part| room_no(sheet, part) <= ROOM)
 }
 
 // Refusal 2: every width, edge, condition, listing and room word is within the sheet's rules.
@@ -220,17 +126,9 @@ pub fn words_ok(sheet: &[u64]) -> bool
     requires { Counts sheet.now }
     ensures { result ≡ good_words (sheet_of sheet.now) }
 {
-    if !widths_ok(sheet) {
-        return false;
-    }
-    if !edges_ok(sheet) {
-        return false;
-    }
-    if !conditions_ok(sheet) {
-        return false;
-    }
-    if !listings_ok(sheet) {
-        return false;
-    }
-    rooms_ok(sheet)
+    widths_ok(sheet)
+        && edges_ok(sheet)
+        && conditions_ok(sheet)
+        && listings_ok(sheet)
+        && rooms_ok(sheet)
 }

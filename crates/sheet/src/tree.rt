@@ -13,17 +13,9 @@ fn edges_into(sheet: &[u64], t: usize) -> usize
     requires { Counts sheet.now }
     ensures { result ≡ counted (goes_no sheet.now t) (edge_count sheet.now) }
 {
-    let e = edges(sheet);
-    let mut many = 0;
-    let mut k = 0;
-    while k < e {
-        let edge = edge_no(sheet, k);
-        k += 1;
-        if edge.parent == t {
-            many += 1;
-        }
-    }
-    many
+    (0..edges(sheet))
+        .filter(|&k| edge_no(sheet, k).parent == t)
+        .count()
 }
 
 // The edge into table t, or e where there is none.
@@ -32,15 +24,7 @@ pub fn edge_into(sheet: &[u64], t: usize) -> usize
     ensures { result ≡ first (goes_no sheet.now t) (edge_count sheet.now) }
 {
     let e = edges(sheet);
-    let mut k = 0;
-    while k < e {
-        let edge = edge_no(sheet, k);
-        if edge.parent == t {
-            return k;
-        }
-        k += 1;
-    }
-    e
+    (0..e).find(|&k| edge_no(sheet, k).parent == t).unwrap_or(e)
 }
 
 // Whether each table has at most one edge into it.
@@ -48,16 +32,7 @@ fn one_into_each(sheet: &[u64]) -> bool
     requires { Counts sheet.now }
     ensures { result ≡ every (one_into sheet.now) (table_count sheet.now) }
 {
-    let n = tables(sheet);
-    let mut t = 0;
-    while t < n {
-        if edges_into(sheet, t) <= 1 {
-            t += 1;
-        } else {
-            return false;
-        }
-    }
-    true
+    (0..tables(sheet)).all(|t| edges_into(sheet, t) <= 1)
 }
 
 // How many tables have no edge into them.
@@ -65,17 +40,9 @@ fn roots(sheet: &[u64]) -> usize
     requires { Counts sheet.now }
     ensures { result ≡ counted (root_no sheet.now) (table_count sheet.now) }
 {
-    let n = tables(sheet);
-    let mut many = 0;
-    let mut t = 0;
-    while t < n {
-        let k = edges_into(sheet, t);
-        t += 1;
-        if k == 0 {
-            many += 1;
-        }
-    }
-    many
+    (0..tables(sheet))
+        .filter(|&t| edges_into(sheet, t) == 0)
+        .count()
 }
 
 // Whether table t is reached from the root in at most `left` edges: each step leaves one edge less to walk.
@@ -98,17 +65,8 @@ fn all_reached(sheet: &[u64]) -> bool
     requires { Joined sheet.now }
     ensures { result ≡ every (reached_no sheet.now (edge_count sheet.now)) (table_count sheet.now) }
 {
-    let n = tables(sheet);
     let e = edges(sheet);
-    let mut t = 0;
-    while t < n {
-        if is_reached(sheet, t, e) {
-            t += 1;
-        } else {
-            return false;
-        }
-    }
-    true
+    (0..tables(sheet)).all(|t| is_reached(sheet, t, e))
 }
 
 // Each table but one has exactly one edge into it, that one has none, and every table is reached from it.
@@ -116,11 +74,5 @@ pub fn tree_ok(sheet: &[u64]) -> bool
     requires { Rules sheet.now }
     ensures { result ≡ good_tree (sheet_of sheet.now) }
 {
-    if roots(sheet) != 1 {
-        return false;
-    }
-    if !one_into_each(sheet) {
-        return false;
-    }
-    all_reached(sheet)
+    roots(sheet) == 1 && one_into_each(sheet) && all_reached(sheet)
 }

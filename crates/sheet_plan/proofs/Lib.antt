@@ -1,4 +1,6 @@
 pub mod Chosen
+pub mod Counting
+pub mod FromFn
 pub mod Laying
 pub mod Marking
 pub mod Shown

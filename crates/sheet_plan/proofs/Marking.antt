@@ -19,10 +19,7 @@ use Rattle.lists.proofs.Truth.{is_t, T→≡, same_test, or_inl, or_inr, or_case
 use Rattle.lists.proofs.Loops.{some-hit, length-filled, get_or-filled}
 use Rattle.meaning.specs.Sheet.{sheet_of, has_column, width, table_count, edge_count, listed_count}
 use Rattle.meaning.specs.Plan.{is_shown}
-use Rattle.sheet.specs.declared.reading.Edge.{Edge}
-use Rattle.sheet.specs.declared.reading.Listing.{Listing}
 use Rattle.sheet.specs.Numbered.{edge_no, listing_no}
-use Rattle.sheet.specs.Read.{ReadsEdge, ReadsListing}
 use Rattle.sheet.specs.Rules.{Column, Rules}
 use Rattle.sheet.specs.Tests.{listing_names}
 use Rattle.sheet.proofs.Numbers.{first_passes}
@@ -91,25 +88,8 @@ both-same : (a b c d : ℕ) → T (eqb a b && eqb c d) → (a ≡ b) × (c ≡ d
 both-same a b c d h = (eqb→≡ a b (and-fst (eqb a b) (eqb c d) h), eqb→≡ c d (and-snd (eqb a b) (eqb c d) h))
 
 -- the columns of edges and listings, as they are read
-module _ (ws : Words) (r : Rules ws) (k : ℕ) where
-  narrow : (t c : ℕ) → Column ws t c → (t < 8) × (c < 8)
-  narrow t c h = (omega (arith, h.table, r.counts.tables-few), omega (arith, h.within, (r.widths t h.table).high))
-
-  module _ {x : Edge} (reads : ReadsEdge ws k x) where
-    pub edge-narrow : k < edge_count ws → (x.child < 8) × (x.column < 8)
-    edge-narrow l = let n = narrow _ _ (r.edges k l).there in (omega (arith, n.0, reads.child-is), omega (arith, n.1, reads.column-is))
-
-    pub edge-place : 8 * x.child + x.column ≡ edge_place ws k
-    unfolding edge_place
-    edge-place = rw (reads.child-is, reads.column-is)
-
-  module _ {x : Listing} (reads : ReadsListing ws k x) where
-    pub listing-narrow : k < listed_count ws → (x.table < 8) × (x.column < 8)
-    listing-narrow l = let n = narrow _ _ (r.listings k l).there in (omega (arith, n.0, reads.table_is), omega (arith, n.1, reads.column-is))
-
-    pub listing-place : 8 * x.table + x.column ≡ listing_place ws k
-    unfolding listing_place
-    listing-place = rw (reads.table_is, reads.column-is)
+narrow : (ws : Words) → Rules ws → (t c : ℕ) → Column ws t c → (t < 8) × (c < 8)
+narrow ws r t c h = (omega (arith, h.table, r.counts.tables-few), omega (arith, h.within, (r.widths t h.table).high))
 
 module _ (ws : Words) (r : Rules ws) (i : ℕ) where
   -- place i is that of a column that is there, and that is shown
@@ -134,7 +114,7 @@ module _ (ws : Words) (r : Rules ws) (i : ℕ) where
   -- the column at place i
   column-there : (t c : ℕ) → Column ws t c → 8 * t + c ≡ i → T there × ((t ≡ i / 8) × (c ≡ i % 8))
   column-there t c h e =
-      let n = narrow ws r 0 t c h in
+      let n = narrow ws r t c h in
       let a : t ≡ i / 8 = omega (arith, n.1) in
       let b : c ≡ i % 8 = omega (arith, n.1) in (
         subst (λ (u : ℕ). T (has_column (sheet_of ws) u (i % 8))) a

@@ -1,7 +1,7 @@
 -- What the check's answer says of a sheet that is not refused: its plan is the plan of the sheet, place by place.
 -- Assumes nothing.
 use Prim.Native.Nat.{ℕ, zero, suc, ◌+◌, ◌-◌, ◌*◌, ◌/◌, ◌%◌, ◌<◌, ◌≤◌}
-use mathlib.Core.Path.{◌≡◌, refl, sym, ap, ap₂, subst, ◌∙◌}
+use mathlib.Core.Path.{◌≡◌, refl, sym, ap, ap₂, ◌∙◌}
 use mathlib.Core.Bool.{◌&&◌}
 use native.Mathlib.Nat.{add-zero, add-suc}
 use native.Mathlib.Omega.{arith}
@@ -14,9 +14,15 @@ use Rattle.meaning.specs.Sheet.{Sheet, sheet_of, sheet_refusal, has_column, tabl
 use Rattle.meaning.specs.Plan.{is_shown, shown, columns, size, start, store_length}
 use Rattle.sheet.proofs.Words.{n-is}
 use Rattle.sheet.specs.Tree.{GoodSheet}
-use Rattle.sheet.proofs.Good.{zero-good, good-sheet}
+use Rattle.sheet.proofs.Good.{number_is, good-sheet}
+use Rattle.sheet.proofs.Refusals.{never-zero, of-number}
+use Rattle.sheet.specs.declared.refusal.Refusal.{Refusal}
+use Rattle.sheet.specs.Refusals.{refusal_number, refusal_of, number_of}
+use Rattle.sheet.specs.Verdicts.{verdict_of}
+use Rattle.std.specs.Prelude.{Result, Ok, Err, eqb, cond, ⊤, Bool, true, false}
+use borrow.Author.Tests.{ne_eqb}
 use Rattle.sheet_plan.specs.Plans.{kept_at, kept_of, shows_at, shows_of, shown_at, shown_of, columns_of, room_at, rooms_of, starts_of, plan_for}
-use Rattle.sheet_plan.specs.Plans.{plan_beside, checked_of}
+use Rattle.sheet_plan.specs.Plans.{checked_of}
 use Rattle.sheet_plan.specs.Planned.{Lengths, IsPlan}
 use Rattle.sheet_plan.specs.declared.Plan.{Plan}
 use Rattle.sheet_plan.proofs.Shown.{width_small}
@@ -110,11 +116,36 @@ module _ (ws : Words) (g : GoodSheet ws) where
       good : Sheets.Good (sheet_of ws)
       good = SheetLaws.good-sheet ws g.not-refused
 
--- the plan that the check hands out with a good verdict
-module _ (ws : Words) (h : sheet_refusal ws ≡ 0) where
-  pub good-plan : (checked_of ws).plan ≡ plan_for (sheet_of ws)
+-- what the check answers
+module _ (ws : Words) where
+  pub checked-good : sheet_refusal ws ≡ 0 → Ok (plan_for (sheet_of ws)) ≡ checked_of ws
   unfolding checked_of
-  good-plan = ap (λ v. plan_beside v (sheet_of ws)) (zero-good ws h)
+  checked-good h = rw h
 
-  pub planned : IsPlan (sheet_of ws) (checked_of ws).plan
-  planned = subst (λ (p : Plan). IsPlan (sheet_of ws) p) (sym good-plan) (plan-facts ws (good-sheet ws h))
+  pub checked-refused : (r : Refusal) → sheet_refusal ws ≡ refusal_number r → Err r ≡ checked_of ws
+  unfolding checked_of
+  checked-refused r h = rw (h, ne_eqb (refusal_number r) 0 (never-zero r), of-number r)
+
+  -- its number is the refusal's, and 0 where there is a plan
+  pub checked-number : number_of (checked_of ws) ≡ sheet_refusal ws
+  unfolding checked_of verdict_of
+  checked-number = go (eqb (sheet_refusal ws) 0) ∙ number_is ws
+    where
+      go : (b : Bool)
+          → number_of (cond {A = Result Plan Refusal} b (Ok (plan_for (sheet_of ws))) (Err (refusal_of (sheet_refusal ws))))
+          ≡ number_of (cond {A = Result ⊤ Refusal} b (Ok tt) (Err (refusal_of (sheet_refusal ws))))
+      go true = refl
+      go false = refl
+
+  pub checked-is : (r : Refusal) → Err r ≡ checked_of ws → sheet_refusal ws ≡ refusal_number r
+  checked-is r e = sym checked-number ∙ sym (ap number_of e)
+
+  module _ (p : Plan) (e : Ok p ≡ checked_of ws) where
+    pub checked-zero : sheet_refusal ws ≡ 0
+    checked-zero = sym checked-number ∙ sym (ap number_of e)
+
+    pub checked-plan : p ≡ plan_for (sheet_of ws)
+    checked-plan = let q : ◌≡◌ {A = Result Plan Refusal} (Ok p) (Ok (plan_for (sheet_of ws))) = e ∙ sym (checked-good checked-zero) in cc
+
+    pub planned : IsPlan (sheet_of ws) p
+    planned = rw checked-plan (plan-facts ws (good-sheet ws checked-zero))

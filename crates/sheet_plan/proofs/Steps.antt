@@ -1,7 +1,7 @@
 -- The ways through the functions that fill the arrays, said of words and numbers.
 -- Assumes nothing.
 use Prim.Native.Nat.{ℕ, ◌+◌, ◌*◌, ◌≤◌}
-use mathlib.Core.Path.{◌≡◌, sym, ap, ◌∙◌}
+use mathlib.Core.Path.{◌≡◌, ap, ◌∙◌}
 use mathlib.Core.Bool.{true, false}
 use mathlib.Core.List.{List}
 use native.Mathlib.Omega.{arith}
@@ -9,30 +9,18 @@ use lib.ListN.{get_or, set, replicate}
 use borrow.Author.Tests.{eq-eqb, ne_eqb}
 use Rattle.lists.specs.Lists.{Words}
 use Rattle.lists.specs.Loops.{filled}
-use Rattle.lists.proofs.Loops.{filled_more, filled-end}
+use Rattle.lists.proofs.Loops.{filled_more}
 use Rattle.meaning.specs.Sheet.{sheet_of, table_count}
 use Rattle.meaning.specs.Plan.{start, store_length}
 use Rattle.meaning.specs.Plan as Meant
 use Rattle.sheet.specs.Rules.{Rules}
-use Rattle.sheet.specs.Verdicts.{verdict_of}
-use Rattle.sheet.specs.declared.Verdict.{Verdict}
-use Rattle.sheet.specs.declared.Verdict.TheVariants.{Good, Refused}
 use Rattle.sheet.proofs.Words.{n-is}
 use Rattle.sheet_plan.specs.Marks.{has_mark, lists_of, places_of}
 use Rattle.sheet_plan.specs.Orders.{order_of}
-use Rattle.sheet_plan.specs.Plans.{kept_of, shows_of, columns_of, rooms_of, starts_of, plan_for, empty_plan, checked_of}
+use Rattle.sheet_plan.specs.Plans.{kept_of, shows_of, columns_of, rooms_of, starts_of, plan_for}
 use Rattle.sheet_plan.specs.declared.Plan.{Plan}
-use Rattle.sheet_plan.specs.declared.Checked.{Checked}
 use Rattle.sheet_plan.proofs.Shown.{lists-shown}
 use Rattle.sheet_plan.proofs.Sizes.{starts-read}
-
--- a loop over the tables, or over the parts, has come to its end
-pub tables_end : (f : ℕ → ℕ) (ws : Words) (k : ℕ) (d a : List ℕ) → k ≤ table_count ws → table_count ws ≤ k → a ≡ filled f k d → a ≡ filled f (sheet_of ws).n d
-tables_end f ws k d a h l e = filled-end f k (table_count ws) d a h l e ∙ ap (λ (n : ℕ). filled f n d) (sym (n-is ws))
-
-pub parts-end : (f : ℕ → ℕ) (ws : Words) (k : ℕ) (d a : List ℕ) → k ≤ table_count ws + 1 → table_count ws + 1 ≤ k
-    → a ≡ filled f k d → a ≡ filled f ((sheet_of ws).n + 1) d
-parts-end f ws k d a h l e = filled-end f k (table_count ws + 1) d a h l e ∙ ap (λ (n : ℕ). filled f (n + 1) d) (sym (n-is ws))
 
 -- where the loop over the parts has come to, behind the list, the store ends
 pub starts-filled : (ws : Words) (k m end : ℕ) (r : List ℕ) → m ≡ table_count ws + 1 → k ≤ m → m ≤ k → r ≡ filled (start (sheet_of ws)) k (replicate 10 0)
@@ -81,14 +69,3 @@ plan-made ws r tables root kept shows shown columns rooms starts order places t 
     let n = n-is ws in
     let b = starts-read (sheet_of ws) (omega (arith, r.counts.tables-few)) ((sheet_of ws).n + 1) (omega arith) in
     cc
-
--- the two outcomes of the check
-pub check-refused : (ws : Words) (v : Verdict) (k : ℕ) (p : Plan) → v ≡ verdict_of ws → v ≡ Refused k → p ≡ empty_plan
-    → ◌≡◌ {A = Checked} (record { verdict = v; plan = p }) (checked_of ws)
-unfolding checked_of
-check-refused ws v k p e r q = rw (← e, r, q)
-
-pub check-good : (ws : Words) (v : Verdict) (p : Plan) → v ≡ verdict_of ws → v ≡ Good → p ≡ plan_for (sheet_of ws)
-    → ◌≡◌ {A = Checked} (record { verdict = v; plan = p }) (checked_of ws)
-unfolding checked_of
-check-good ws v p e r q = rw (← e, r, q)

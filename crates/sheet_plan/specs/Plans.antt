@@ -1,19 +1,17 @@
--- The plan of a sheet as arrays, table by table, and what the check answers beside it.
+-- The plan of a sheet as arrays, table by table, and what the check answers.
 -- Assumes nothing.
-use Rattle.std.specs.Prelude.{ℕ, ◌+◌, ◌/◌, ◌%◌, ◌&&◌, List, replicate}
+use Rattle.std.specs.Prelude.{ℕ, ◌+◌, ◌/◌, ◌%◌, cond, ◌&&◌, List, Result, Ok, Err, eqb, replicate}
 use Rattle.lists.specs.Lists.{Words, at}
 use Rattle.lists.specs.Totals.{one}
 use Rattle.lists.specs.Loops.{filled}
 use Rattle.meaning.specs.Limits.{most_tables, most_columns, most_places, count_words}
-use Rattle.meaning.specs.Sheet.{Sheet, sheet_of, has_column, room}
+use Rattle.meaning.specs.Sheet.{Sheet, sheet_of, sheet_refusal, has_column, room}
 use Rattle.meaning.specs.Plan.{root, kept, is_shown, shown, columns, start, store_length}
-use Rattle.sheet.specs.Verdicts.{verdict_of}
-use Rattle.sheet.specs.declared.Verdict.{Verdict}
-use Rattle.sheet.specs.declared.Verdict.TheVariants.{Good, Refused}
+use Rattle.sheet.specs.declared.refusal.Refusal.{Refusal}
+use Rattle.sheet.specs.Refusals.{refusal_of}
 use Rattle.sheet_plan.specs.Marks.{places_of}
 use Rattle.sheet_plan.specs.Orders.{order_of}
 use Rattle.sheet_plan.specs.declared.Plan.{Plan}
-use Rattle.sheet_plan.specs.declared.Checked.{Checked}
 
 unfoldable pub kept_at : Sheet → ℕ → ℕ
 kept_at s t = one (kept s t)
@@ -63,26 +61,6 @@ plan_for s =
       places = places_of (shows_of s);
     }
 
-abbrev pub empty_plan : Plan
-empty_plan =
-    record {
-      tables = 0;
-      root = 0;
-      store = 0;
-      kept = replicate most_tables 0;
-      shows = replicate most_places 0;
-      shown = replicate most_places 0;
-      columns = replicate count_words 0;
-      rooms = replicate count_words 0;
-      starts = replicate 10 0;
-      order = replicate most_tables 0;
-      places = replicate most_places 0;
-    }
-
--- the plan beside a verdict
-abbrev pub plan_beside : Verdict → Sheet → Plan
-plan_beside Good s = plan_for s
-plan_beside (Refused k) s = empty_plan
-
-unfoldable pub checked_of : Words → Checked
-checked_of ws = record { verdict = verdict_of ws; plan = plan_beside (verdict_of ws) (sheet_of ws) }
+-- the plan of a sheet, if it is not refused
+unfoldable pub checked_of : Words → Result Plan Refusal
+checked_of ws = cond (eqb (sheet_refusal ws) 0) (Ok (plan_for (sheet_of ws))) (Err (refusal_of (sheet_refusal ws)))

@@ -1,22 +1,21 @@
-// The plan of a good sheet: what the calls need of it, as arrays table by table, beside the verdict.
+// The plan of a good sheet: what the calls need of it, as arrays table by table; or the refusal of one that is not.
 #![tactic(auto)]
 
 mod marks;
 mod outward;
 
-ghost use Rattle.std.specs.Prelude.{◌≡◌, ◌+◌, ◌*◌, ◌≤◌, ◌<◌, set};
+ghost use Rattle.std.specs.Prelude.{◌≡◌, ℕ, ◌+◌, ◌*◌, ◌≤◌, ◌<◌};
 ghost use Rattle.meaning.specs.Limits.{most_tables, most_columns};
-ghost use Rattle.meaning.specs.Sheet.{sheet_of, table_count, edge_count, listed_count};
+ghost use Rattle.meaning.specs.Sheet.{sheet_of, table_count};
 ghost use Rattle.meaning.specs.Plan.{columns, size};
-ghost use Rattle.sheet.specs.Rules.{Counts, Rules};
+ghost use Rattle.sheet.specs.Rules.{Counts};
 ghost use Rattle.sheet.specs.Tree.{GoodSheet};
-ghost use Rattle.sheet_plan.specs.Marked.{marked_by, key_place, edge_place, listing_place};
-ghost use Rattle.sheet_plan.specs.Plans.{kept_of, shows_of, columns_of, rooms_of, starts_of, plan_for, empty_plan, checked_of};
+ghost use Rattle.sheet_plan.specs.Marked.{marked_by};
+ghost use Rattle.sheet_plan.specs.Plans.{kept_of, shows_of, columns_of, rooms_of, starts_of, plan_for, checked_of};
 
-pub use marks::mark_of;
 use marks::{lay_rows, marks_before};
 use outward::order_of;
-use sheet::{COLUMNS, PARTS, PLACES, TABLES, Verdict};
+use sheet::{COLUMNS, PARTS, PLACES, Refusal, TABLES};
 
 // Part t is table t's, part n (tables) the list's. Column sets have eight places for each table, from 8t on.
 #[derive(Clone, Copy)]
@@ -42,72 +41,28 @@ pub struct Plan {
     pub places: [usize; PLACES],
 }
 
-#[derive(Clone, Copy)]
-pub struct Checked {
-    pub verdict: Verdict,
-    pub plan: Plan,
-}
-
 fn kept_marks(sheet: &[u64]) -> [u64; TABLES]
     requires { GoodSheet sheet.now }
     ensures { result ≡ kept_of (sheet_of sheet.now) }
 {
     let n = sheet::tables(sheet);
-    let mut m = [0u64; TABLES];
-    let mut t = 0;
-    while t < n {
-        m[t] = mark_of(derive::is_kept(sheet, t));
-        t += 1;
-    }
-    m
+    std::array::from_fn(|t| if t < n {
+        u64::from(derive::is_kept(sheet, t))
+    } else {
+        0
+    })
 }
 
-// Marks column c of table t.
-fn mark(m: &mut [u64; PLACES], t: usize, c: usize)
-    requires { (t < most_tables) × (c < most_columns) }
-    ensures { m.new ≡ set m.old (most_columns * t + c) 1 }
+// Marks n places, each the table and the column that `place` gives.
+fn mark_each<P: Fn(usize) -> (usize, usize)>(m: &mut [u64; PLACES], n: usize, place: P)
+    requires callable { (k : ℕ) → k < n → P.pre place k }
+    requires there { (k : ℕ) (r : ℕ × ℕ) → k < n → P.post place k r → (r.0 < most_tables) × (r.1 < most_columns) }
+    ensures { (f : ℕ → ℕ) → ((k : ℕ) (r : ℕ × ℕ) → k < n → P.post place k r → most_columns * r.0 + r.1 ≡ f k)
+        → m.new ≡ marked_by f n m.old }
 {
-    m[COLUMNS * t + c] = 1;
-}
-
-// Marks the key of each table.
-fn mark_keys(sheet: &[u64], m: &mut [u64; PLACES])
-    requires { Counts sheet.now }
-    ensures { m.new ≡ marked_by key_place (table_count sheet.now) m.old }
-{
-    let n = sheet::tables(sheet);
-    let mut t = 0;
-    while t < n {
-        mark(m, t, 0);
-        t += 1;
-    }
-}
-
-// Marks the child column of each edge.
-fn mark_child_columns(sheet: &[u64], m: &mut [u64; PLACES])
-    requires { Rules sheet.now }
-    ensures { m.new ≡ marked_by (edge_place sheet.now) (edge_count sheet.now) m.old }
-{
-    let e = sheet::edges(sheet);
-    let mut k = 0;
-    while k < e {
-        let edge = sheet::edge_no(sheet, k);
-        mark(m, edge.child, edge.column);
-        k += 1;
-    }
-}
-
-// Marks each listed column.
-fn mark_listed(sheet: &[u64], m: &mut [u64; PLACES])
-    requires { Rules sheet.now }
-    ensures { m.new ≡ marked_by (listing_place sheet.now) (listed_count sheet.now) m.old }
-{
-    let p = sheet::listed(sheet);
-    let mut k = 0;
-    while k < p {
-        let listing = sheet::listing_no(sheet, k);
-        mark(m, listing.table, listing.column);
-        k += 1;
+    for k in 0..n {
+        let (t, c) = place(k);
+        m[COLUMNS * t + c] = 1;
     }
 }
 
@@ -117,9 +72,15 @@ fn shows_marks(sheet: &[u64]) -> [u64; PLACES]
     ensures { result ≡ shows_of (sheet_of sheet.now) }
 {
     let mut m = [0u64; PLACES];
-    mark_keys(sheet, &mut m);
-    mark_child_columns(sheet, &mut m);
-    mark_listed(sheet, &mut m);
+    mark_each(&mut m, sheet::tables(sheet), |t| (t, 0));
+    mark_each(&mut m, sheet::edges(sheet), |k| {
+        let edge = sheet::edge_no(sheet, k);
+        (edge.child, edge.column)
+    });
+    mark_each(&mut m, sheet::listed(sheet), |k| {
+        let listing = sheet::listing_no(sheet, k);
+        (listing.table, listing.column)
+    });
     m
 }
 
@@ -142,28 +103,24 @@ fn columns_of(sheet: &[u64], kept: &[u64; TABLES], shows: &[u64; PLACES]) -> [us
     requires { GoodSheet sheet.now × ((kept.now ≡ kept_of (sheet_of sheet.now)) × (shows.now ≡ shows_of (sheet_of sheet.now))) }
     ensures { result ≡ columns_of (sheet_of sheet.now) }
 {
-    let m = sheet::tables(sheet) + 1;
-    let mut r = [0usize; PARTS];
-    let mut part = 0;
-    while part < m {
-        r[part] = columns_in(sheet, kept, shows, part);
-        part += 1;
-    }
-    r
+    let list = sheet::tables(sheet);
+    std::array::from_fn(|part| if part <= list {
+        columns_in(sheet, kept, shows, part)
+    } else {
+        0
+    })
 }
 
 fn rooms_of(sheet: &[u64]) -> [usize; PARTS]
     requires { Counts sheet.now }
     ensures { result ≡ rooms_of (sheet_of sheet.now) }
 {
-    let m = sheet::tables(sheet) + 1;
-    let mut r = [0usize; PARTS];
-    let mut part = 0;
-    while part < m {
-        r[part] = sheet::room_no(sheet, part);
-        part += 1;
-    }
-    r
+    let list = sheet::tables(sheet);
+    std::array::from_fn(|part| if part <= list {
+        sheet::room_no(sheet, part)
+    } else {
+        0
+    })
 }
 
 // How many words a part has room for.
@@ -183,11 +140,9 @@ fn starts_of(sheet: &[u64], rooms: &[usize; PARTS], columns: &[usize; PARTS]) ->
     let m = sheet::tables(sheet) + 1;
     let mut r = [0usize; PARTS + 1];
     let mut at: usize = PARTS;
-    let mut part = 0;
-    while part < m {
+    for part in 0..m {
         r[part] = at;
         at += size_of(sheet, rooms, columns, part);
-        part += 1;
     }
     r[m] = at;
     r
@@ -211,53 +166,24 @@ fn plan_for(sheet: &[u64]) -> Plan
     let store = starts[tables + 1];
     let order = order_of(sheet, root);
     Plan {
-        tables: tables,
-        root: root,
-        store: store,
-        kept: kept,
-        shows: shows,
-        shown: shown,
-        columns: columns,
-        rooms: rooms,
-        starts: starts,
-        order: order,
-        places: places,
+        tables,
+        root,
+        store,
+        kept,
+        shows,
+        shown,
+        columns,
+        rooms,
+        starts,
+        order,
+        places,
     }
 }
 
-fn empty_plan() -> Plan
-    ensures { result ≡ empty_plan }
-{
-    Plan {
-        tables: 0,
-        root: 0,
-        store: 0,
-        kept: [0u64; TABLES],
-        shows: [0u64; PLACES],
-        shown: [0usize; PLACES],
-        columns: [0usize; PARTS],
-        rooms: [0usize; PARTS],
-        starts: [0usize; PARTS + 1],
-        order: [0usize; TABLES],
-        places: [0usize; PLACES],
-    }
-}
-
-// The verdict on a sheet, and beside it the plan: all zero where the sheet is refused.
-pub fn check(sheet: &[u64]) -> Checked
+// The plan of a sheet, if it is not refused.
+pub fn check(sheet: &[u64]) -> Result<Plan, Refusal>
     ensures { result ≡ checked_of sheet.now }
 {
-    let v = sheet::verdict_of(sheet);
-    let Verdict::Good = v else {
-        let p = empty_plan();
-        return Checked {
-            verdict: v,
-            plan: p,
-        };
-    };
-    let p = plan_for(sheet);
-    Checked {
-        verdict: v,
-        plan: p,
-    }
+    sheet::verdict_of(sheet)?;
+    Ok(plan_for(sheet))
 }

@@ -46,14 +46,14 @@ module _ {s : Sheet} {p : Plan} (plan : GoodPlan s p) (t : ℕ) (l : t < s.n) (j
   shown-value r c v e f = f ∙ ap (at r) (e ∙ shown-number)
 
 -- the loop's end
-pub shown-end : (s : Sheet) (t : ℕ) (r : Row) (k n : ℕ) (old row : Words) → length old ≡ length (shown s t) → n ≡ length old → k ≤ n → n ≤ k
+pub shown-end : (s : Sheet) (t : ℕ) (r : Row) (k : ℕ) (old row : Words) → length old ≡ length (shown s t) → k ≤ length old → length old ≤ k
     → row ≡ filled (shown_value s t r) k old → row ≡ pick (shown s t) r
 unfolding shown_value
-shown-end s t r k n old row len e a b h =
+shown-end s t r k old row len a b h =
     ext_get_or 0 row (pick (shown s t) r) many each
   where
     all : row ≡ filled (shown_value s t r) (length old) old
-    all = filled-end (shown_value s t r) k (length old) old row (omega arith) (omega arith) h
+    all = filled-end (shown_value s t r) k (length old) old row a b h
 
     long : length row ≡ length old
     long = ap length all ∙ length-filled (shown_value s t r) (length old) old

@@ -10,7 +10,7 @@ use Rattle.lists.specs.Lists.{Words, at}
 use Rattle.lists.proofs.Truth.{T→≡, F→≡, false→F}
 use Rattle.rows.specs.Rows.{Row, Rows, key, pick, rising, has_row, has_key}
 use Rattle.rows.specs.Ranks.{found_key}
-use Rattle.std.specs.Prelude.{Option, Some, None}
+use Rattle.std.specs.Prelude.{Option, Some, None, is_some}
 use Rattle.rows.proofs.Ranks.{found-row, missing-row, found-key, missing-key}
 use Rattle.meaning.specs.Sheet.{Sheet, room}
 use Rattle.meaning.specs.Plan.{kept, shown}
@@ -24,6 +24,11 @@ use Rattle.places.proofs.Parts.{slot-table}
 use Rattle.places.proofs.Stands.{sound-stands}
 use Rattle.store.specs.Plans.{GoodPlan}
 use Rattle.side_table.specs.Sides.{found_side, Modelled, has_room}
+
+-- what is not found is new
+turned : (a b : Bool) → a ≡ not b → b ≡ not a
+turned a true e = rw e
+turned a false e = rw e
 
 -- table t of a good sheet is asked about, in a sound store
 pub record Asked (s : Sheet) (t : ℕ) (ws : Words) : Type 0 where
@@ -59,15 +64,13 @@ module _ {s : Sheet} {t : ℕ} {ws : Words} (asked : Asked s t ws) where
 
   -- by a search for the key
   module _ (r : Row) (f : Option ℕ) (is : f ≡ found_key (key r) (rows_at s ws t)) where
-    pub new-missing : f ≡ None → true ≡ new_key (model_of s ws) t r
-    unfolding new_key
-    new-missing e = rw (model-side s ws t asked.there, missing-key (key r) (rows_at s ws t) (sym e ∙ is))
+    has : (o : Option ℕ) → f ≡ o → has_key (key r) (rows_at s ws t) ≡ is_some o
+    has None e = missing-key (key r) (rows_at s ws t) (sym e ∙ is)
+    has (Some i) e = T→≡ (has_key (key r) (rows_at s ws t)) (found-key (key r) (rows_at s ws t) i rising-side (sym e ∙ is)).has
 
-    pub new-at : (i : ℕ) → f ≡ Some i → false ≡ new_key (model_of s ws) t r
+    pub new-is : (b : Bool) → is_some f ≡ not b → b ≡ new_key (model_of s ws) t r
     unfolding new_key
-    new-at i e =
-        let has = (found-key (key r) (rows_at s ws t) i rising-side (sym e ∙ is)).has in
-        rw (model-side s ws t asked.there, T→≡ (has_key (key r) (rows_at s ws t)) has)
+    new-is b e = rw (model-side s ws t asked.there) (turned _ _ (has f refl ∙ e))
 
   module _ (k : T (kept s t)) where
     yes : kept s t ≡ true
@@ -81,16 +84,15 @@ module _ {s : Sheet} {t : ℕ} {ws : Words} (asked : Asked s t ws) where
 
     -- of a qualified row all shown columns
     module _ (r : Row) (q : Bool) (is : q ≡ qualifies s (model_of s ws) t r) (e : q ≡ true) (f : Option ℕ) (found : f ≡ found_side s ws t r) where
-      pub old-missing : f ≡ None → false ≡ old_row s (model_of s ws) t r
-      unfolding old_row
-      old-missing h = rw (yes, sym is ∙ e, model-side s ws t asked.there, missing-row (pick (shown s t) r) (rows_at s ws t) (sym h ∙ found))
-
-      pub old-at : (i : ℕ) → f ≡ Some i → true ≡ old_row s (model_of s ws) t r
-      unfolding old_row
-      old-at i h =
+      there : (o : Option ℕ) → f ≡ o → has_row (pick (shown s t) r) (rows_at s ws t) ≡ is_some o
+      there None h = missing-row (pick (shown s t) r) (rows_at s ws t) (sym h ∙ found)
+      there (Some i) h =
           let row = pick (shown s t) r in
-          let has = (found-row row (rows_at s ws t) i rising-side (sym h ∙ found)).has in
-          rw (yes, sym is ∙ e, model-side s ws t asked.there, T→≡ (has_row row (rows_at s ws t)) has)
+          T→≡ (has_row row (rows_at s ws t)) (found-row row (rows_at s ws t) i rising-side (sym h ∙ found)).has
+
+      pub old-is : (b : Bool) → b ≡ is_some f → b ≡ old_row s (model_of s ws) t r
+      unfolding old_row
+      old-is b h = rw (yes, sym is ∙ e, model-side s ws t asked.there) (h ∙ sym (there f refl))
 
     pub room-is : (many : ℕ) → many ≡ room s t → ltb (at ws t) many ≡ has_room s ws t
     unfolding has_room

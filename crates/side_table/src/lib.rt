@@ -14,25 +14,21 @@ use sheet::COLUMNS;
 use sheet_plan::Plan;
 
 // r's shown columns go into the lent row.
-pub fn side_row(sheet: &[u64], plan: Plan, t: usize, r: &[u64], row: &mut [u64])
-    requires good_plan { GoodPlan (sheet_of sheet.now) plan }
+pub fn side_row(sheet: &[u64], plan: &Plan, t: usize, r: &[u64], row: &mut [u64])
+    requires good_plan { GoodPlan (sheet_of sheet.now) plan.now }
     requires t_bound { t < (sheet_of sheet.now).n }
     requires r_len { length r.now ≡ width (sheet_of sheet.now) t }
     requires row_len { length row.old ≡ length (shown (sheet_of sheet.now) t) }
     ensures { row.new ≡ pick (shown (sheet_of sheet.now) t) r.now }
 {
-    let w = row.len();
-    let mut j = 0;
-    while j < w {
-        let c = plan.shown[COLUMNS * t + j];
-        row[j] = r[c];
-        j += 1;
+    for j in 0..row.len() {
+        row[j] = r[plan.shown[COLUMNS * t + j]];
     }
 }
 
 // The same for a kept table, in a row of its own: the shown columns, and zeros behind them.
-fn side_words(sheet: &[u64], plan: Plan, t: usize, r: &[u64]) -> [u64; COLUMNS]
-    requires good_plan { GoodPlan (sheet_of sheet.now) plan }
+fn side_words(sheet: &[u64], plan: &Plan, t: usize, r: &[u64]) -> [u64; COLUMNS]
+    requires good_plan { GoodPlan (sheet_of sheet.now) plan.now }
     requires t_bound { t < (sheet_of sheet.now).n }
     requires r_len { length r.now ≡ width (sheet_of sheet.now) t }
     requires t { T (kept (sheet_of sheet.now) t) }
@@ -45,8 +41,8 @@ fn side_words(sheet: &[u64], plan: Plan, t: usize, r: &[u64]) -> [u64; COLUMNS]
 }
 
 // Where r's shown columns stand in the kept side table of t.
-fn find_side(sheet: &[u64], plan: Plan, store: &[u64], t: usize, r: &[u64]) -> Option<usize>
-    requires good_plan { GoodPlan (sheet_of sheet.now) plan }
+fn find_side(sheet: &[u64], plan: &Plan, store: &[u64], t: usize, r: &[u64]) -> Option<usize>
+    requires good_plan { GoodPlan (sheet_of sheet.now) plan.now }
     requires t_bound { t < (sheet_of sheet.now).n }
     requires r_len { length r.now ≡ width (sheet_of sheet.now) t }
     requires t { T (kept (sheet_of sheet.now) t) }
@@ -54,14 +50,13 @@ fn find_side(sheet: &[u64], plan: Plan, store: &[u64], t: usize, r: &[u64]) -> O
     ensures { result ≡ found_side (sheet_of sheet.now) store.now t r.now }
 {
     let p = store::part_of(plan, t);
-    let w = p.columns;
     let row = side_words(sheet, plan, t, r);
-    store::find_row(store, p, &row[..w])
+    store::find_row(store, p, &row[..p.columns])
 }
 
 // Whether r's key is new in t's side table.
-pub fn new_key(sheet: &[u64], plan: Plan, store: &[u64], t: usize, r: &[u64]) -> bool
-    requires good_plan { GoodPlan (sheet_of sheet.now) plan }
+pub fn new_key(sheet: &[u64], plan: &Plan, store: &[u64], t: usize, r: &[u64]) -> bool
+    requires good_plan { GoodPlan (sheet_of sheet.now) plan.now }
     requires t_bound { t < (sheet_of sheet.now).n }
     requires r_len { length r.now ≡ width (sheet_of sheet.now) t }
     requires t { T (sound (sheet_of sheet.now) store.now) }
@@ -71,23 +66,19 @@ pub fn new_key(sheet: &[u64], plan: Plan, store: &[u64], t: usize, r: &[u64]) ->
         return true;
     }
     let p = store::part_of(plan, t);
-    let f = store::find_key(store, p, r[0]);
-    let None = f else {
-        return false;
-    };
-    true
+    store::find_key(store, p, r[0]).is_none()
 }
 
 // Whether t's side table agrees that r is there: its shown columns if it is qualified, and not even its key if it isn't.
 pub fn old_row(
     sheet: &[u64],
-    plan: Plan,
+    plan: &Plan,
     store: &[u64],
     t: usize,
     r: &[u64],
     qualified: bool,
 ) -> bool
-    requires good_plan { GoodPlan (sheet_of sheet.now) plan }
+    requires good_plan { GoodPlan (sheet_of sheet.now) plan.now }
     requires t_bound { t < (sheet_of sheet.now).n }
     requires r_len { length r.now ≡ width (sheet_of sheet.now) t }
     requires t { T (sound (sheet_of sheet.now) store.now) }
@@ -100,16 +91,12 @@ pub fn old_row(
     if !qualified {
         return new_key(sheet, plan, store, t, r);
     }
-    let f = find_side(sheet, plan, store, t, r);
-    let None = f else {
-        return true;
-    };
-    false
+    find_side(sheet, plan, store, t, r).is_some()
 }
 
 // Whether t's side table has room for one more row.
-pub fn has_room(sheet: &[u64], plan: Plan, store: &[u64], t: usize) -> bool
-    requires good_plan { GoodPlan (sheet_of sheet.now) plan }
+pub fn has_room(sheet: &[u64], plan: &Plan, store: &[u64], t: usize) -> bool
+    requires good_plan { GoodPlan (sheet_of sheet.now) plan.now }
     requires t_bound { t < (sheet_of sheet.now).n }
     requires t { T (sound (sheet_of sheet.now) store.now) }
     ensures { result ≡ has_room (sheet_of sheet.now) store.now t }
@@ -117,14 +104,12 @@ pub fn has_room(sheet: &[u64], plan: Plan, store: &[u64], t: usize) -> bool
     if plan.kept[t] == 0 {
         return true;
     }
-    let room = plan.rooms[t];
-    let count = store[t] as usize;
-    count < room
+    (store[t] as usize) < plan.rooms[t]
 }
 
 // r's shown columns come into t's side table.
-pub fn put_side(sheet: &[u64], plan: Plan, store: &mut [u64], t: usize, r: &[u64])
-    requires good_plan { GoodPlan (sheet_of sheet.now) plan }
+pub fn put_side(sheet: &[u64], plan: &Plan, store: &mut [u64], t: usize, r: &[u64])
+    requires good_plan { GoodPlan (sheet_of sheet.now) plan.now }
     requires t_bound { t < (sheet_of sheet.now).n }
     requires r_len { length r.now ≡ width (sheet_of sheet.now) t }
     requires modelled { Modelled (sheet_of sheet.now) store.old }
@@ -135,14 +120,13 @@ pub fn put_side(sheet: &[u64], plan: Plan, store: &mut [u64], t: usize, r: &[u64
         return;
     }
     let p = store::part_of(plan, t);
-    let w = p.columns;
     let row = side_words(sheet, plan, t, r);
-    store::put_row(store, p, &row[..w]);
+    store::put_row(store, p, &row[..p.columns]);
 }
 
 // r's shown columns go out of t's side table.
-pub fn take_side(sheet: &[u64], plan: Plan, store: &mut [u64], t: usize, r: &[u64])
-    requires good_plan { GoodPlan (sheet_of sheet.now) plan }
+pub fn take_side(sheet: &[u64], plan: &Plan, store: &mut [u64], t: usize, r: &[u64])
+    requires good_plan { GoodPlan (sheet_of sheet.now) plan.now }
     requires t_bound { t < (sheet_of sheet.now).n }
     requires r_len { length r.now ≡ width (sheet_of sheet.now) t }
     requires modelled { Modelled (sheet_of sheet.now) store.old }
@@ -152,21 +136,20 @@ pub fn take_side(sheet: &[u64], plan: Plan, store: &mut [u64], t: usize, r: &[u6
         return;
     }
     let p = store::part_of(plan, t);
-    let w = p.columns;
     let row = side_words(sheet, plan, t, r);
-    store::take_row(store, p, &row[..w]);
+    store::take_row(store, p, &row[..p.columns]);
 }
 
 // In t's side table the shown columns of a row with the same key stand over old's.
 pub fn replace_side(
     sheet: &[u64],
-    plan: Plan,
+    plan: &Plan,
     store: &mut [u64],
     t: usize,
     old: &[u64],
     new: &[u64],
 )
-    requires good_plan { GoodPlan (sheet_of sheet.now) plan }
+    requires good_plan { GoodPlan (sheet_of sheet.now) plan.now }
     requires t_bound { t < (sheet_of sheet.now).n }
     requires len { length old.now ≡ width (sheet_of sheet.now) t }
     requires len_2 { length new.now ≡ width (sheet_of sheet.now) t }
@@ -177,12 +160,9 @@ pub fn replace_side(
     if plan.kept[t] == 0 {
         return;
     }
-    let f = find_side(sheet, plan, store, t, old);
-    let Some(at) = f else {
-        return;
-    };
-    let p = store::part_of(plan, t);
-    let w = p.columns;
-    let row = side_words(sheet, plan, t, new);
-    store::replace_row(store, p, at, &row[..w]);
+    if let Some(at) = find_side(sheet, plan, store, t, old) {
+        let p = store::part_of(plan, t);
+        let row = side_words(sheet, plan, t, new);
+        store::replace_row(store, p, at, &row[..p.columns]);
+    }
 }

@@ -1,7 +1,7 @@
 -- The show call as the code goes through it: by the check of the sheet, the plan beside it, and the store's test.
 -- Assumes nothing.
 use Prim.Native.Nat.{ℕ, ◌+◌, ◌-◌, ◌*◌, ◌<◌, ◌≤◌}
-use mathlib.Core.Path.{◌≡◌, sym, ap, ap₂, ◌∙◌, subst}
+use mathlib.Core.Path.{◌≡◌, sym, ap₂, ◌∙◌, subst}
 use mathlib.Core.Bool.{Bool, true, false}
 use mathlib.Core.List.{[]}
 use native.Mathlib.Omega.{arith}
@@ -12,9 +12,12 @@ use Rattle.lists.proofs.Truth.{is_t}
 use Rattle.meaning.specs.Sheet.{Sheet, sheet_of, sheet_refusal}
 use Rattle.meaning.specs.Plan.{store_length}
 use Rattle.meaning.specs.Store.{sound, stretch_of, model_of}
-use Rattle.sheet.specs.declared.Verdict.TheVariants.{Good, Refused}
-use Rattle.sheet.specs.Verdicts.{verdict_number}
-use Rattle.sheet_plan.specs.declared.Checked.{Checked}
+use Rattle.std.specs.Prelude.{Ok, Err}
+use Rattle.sheet.specs.declared.refusal.Refusal.{Refusal}
+use Rattle.sheet.specs.Refusals.{refusal_number}
+use Rattle.sheet.proofs.Refusals.{never-zero}
+use Rattle.sheet_plan.specs.declared.Plan.{Plan}
+use Rattle.sheet_plan.proofs.Planning.{checked-zero, checked-is}
 use Rattle.sheet_plan.specs.Plans.{checked_of}
 use Rattle.places.proofs.Stands.{sound-stands}
 use Rattle.store.specs.declared.Part.{Part}
@@ -24,7 +27,7 @@ use Rattle.store.specs.Shows.{Gives, Stands, first_of}
 use Rattle.store.proofs.Parts.{words-length}
 use Rattle.store.proofs.Lying.{count-is, lies-kept}
 use Rattle.store.proofs.Plans.{tables-is, store_is, part_lies}
-use Rattle.store.proofs.Checks.{check-good, check-plan, check-refused, check-numbered}
+use Rattle.store.proofs.Checks.{check-plan}
 use Rattle.store.proofs.Shows.{shows-sheet, shows-length, shows-no-part, shows-unsound, shows-rows}
 
 -- the part that an accepted call shows
@@ -46,36 +49,34 @@ pub stretch-ends : (q : Part) (ws : Words) → Kept q ws → q.start + count_in 
 stretch-ends q ws k = omega (arith, k.within.ends, k.region.fits, words-length q ws k)
 
 pub part-stands : (sheet store : Words) (number : ℕ) (q : Part) → ShownPart sheet store number q
-    → Stands sheet store number (record { refusal = 0; first = q.start; count = count_in q store * q.columns })
+    → Stands sheet store number (Ok (record { first = q.start; count = count_in q store * q.columns }))
 part-stands sheet store number q x = record { gives = x.rows; first-is = x.place; ends = stretch-ends q store x.kept }
 
-module _ (sheet store : Words) (number : ℕ) (c : Checked) (e : c ≡ checked_of sheet) where
-  pub show-refused : (k r : ℕ) → c.verdict ≡ Refused k → r ≡ verdict_number c.verdict → Gives sheet store number [] r
-  show-refused k r v q =
-      subst (Gives sheet store number []) (sym (q ∙ ap verdict_number v))
-      (shows-sheet sheet store number k (check-refused sheet c e k v) (check-numbered sheet c e k v))
+module _ (sheet store : Words) (number : ℕ) where
+  pub show-refused : (r : Refusal) → Err r ≡ checked_of sheet → Gives sheet store number [] (refusal_number r)
+  show-refused r e = shows-sheet sheet store number (refusal_number r) (checked-is sheet r e) (never-zero r)
 
-  module _ (g : c.verdict ≡ Good) where
+  module _ (p : Plan) (e : Ok p ≡ checked_of sheet) where
     good : sheet_refusal sheet ≡ 0
-    good = check-good sheet c e g
+    good = checked-zero sheet p e
 
-    plan : GoodPlan (sheet_of sheet) c.plan
-    plan = check-plan sheet c e g
+    plan : GoodPlan (sheet_of sheet) p
+    plan = check-plan sheet p e
 
-    tables : c.plan.tables ≡ (sheet_of sheet).n
-    tables = tables-is (sheet_of sheet) c.plan plan
+    tables : p.tables ≡ (sheet_of sheet).n
+    tables = tables-is (sheet_of sheet) p plan
 
-    long-is : c.plan.store ≡ store_length (sheet_of sheet)
-    long-is = store_is (sheet_of sheet) c.plan plan
+    long-is : p.store ≡ store_length (sheet_of sheet)
+    long-is = store_is (sheet_of sheet) p plan
 
-    pub show-length : (length store ≡ c.plan.store → ⊥) → Gives sheet store number [] 4
+    pub show-length : (length store ≡ p.store → ⊥) → Gives sheet store number [] 4
     show-length d = shows-length sheet store number good (λ q. d (q ∙ sym long-is))
 
-    module _ (l : length store ≡ c.plan.store) where
-      pub show-number : c.plan.tables < number → Gives sheet store number [] 5
+    module _ (l : length store ≡ p.store) where
+      pub show-number : p.tables < number → Gives sheet store number [] 5
       show-number m = shows-no-part sheet store number good (l ∙ long-is) (omega (arith, tables))
 
-      module _ (m : number ≤ c.plan.tables) (b : Bool) (is : SoundIs c.plan store b) where
+      module _ (m : number ≤ p.tables) (b : Bool) (is : SoundIs p store b) where
         inside : number ≤ (sheet_of sheet).n
         inside = omega (arith, tables)
 
@@ -85,9 +86,9 @@ module _ (sheet store : Words) (number : ℕ) (c : Checked) (e : c ≡ checked_o
         pub show-unsound : b ≡ false → Gives sheet store number [] 7
         show-unsound f = shows-unsound sheet store number good (l ∙ long-is) inside (found ∙ f)
 
-        module _ (t : b ≡ true) (q : Part) (p : q ≡ part_of c.plan number) where
+        module _ (t : b ≡ true) (q : Part) (is-part : q ≡ part_of p number) where
           lies : Lies (sheet_of sheet) number q
-          lies = part_lies (sheet_of sheet) c.plan plan number inside q p
+          lies = part_lies (sheet_of sheet) p plan number inside q is-part
 
           pub show-part : ShownPart sheet store number q
           unfolding first_of

@@ -1,7 +1,7 @@
 -- Each way through the show call: what it gives when a test is not passed, and when all are.
 -- Assumes nothing.
 use Prim.Native.Nat.{ℕ, zero, suc, ◌+◌, ◌<◌, ◌≤◌}
-use mathlib.Core.Path.{◌≡◌, refl, sym, ap, subst, ◌∙◌}
+use mathlib.Core.Path.{◌≡◌, refl, sym, ap, ◌∙◌}
 use mathlib.Core.Bool.{true, false}
 use mathlib.Core.List.{[]}
 use native.Mathlib.Omega.{arith}
@@ -10,34 +10,49 @@ use borrow.Author.Tests.{eq-eqb, ne_eqb, le-leb, lt-leb}
 use Rattle.lists.specs.Lists.{Words}
 use Rattle.lists.specs.Parts.{part}
 use denote.Ref.{Bor}
-use Rattle.store.specs.Shows.{Gives, first_of, no_stretch, Stands, word_at, HandsBack}
+use Rattle.std.specs.Prelude.{Result, Ok, Err}
+use Rattle.sheet.specs.declared.refusal.Refusal.{Refusal}
+use Rattle.sheet.specs.Refusals.{refusal_number}
+use Rattle.sheet.proofs.Refusals.{never-zero, number-once}
+use Rattle.store.specs.Shows.{Gives, first_of, Stands, word_at, HandsBack}
 use Rattle.store.specs.declared.Stretch.{Stretch}
 use Rattle.meaning.specs.Sheet.{sheet_of, sheet_refusal}
 use Rattle.meaning.specs.Plan.{store_length}
 use Rattle.meaning.specs.Store.{sound, show_refusal, stretch_of, show}
 
--- two answers that keep the promise are the same: words, place and number
-pub gives-once : (sheet : Words) (store : Bor Words) (part : ℕ) (v w : Bor Words) (j k : ℕ) → HandsBack sheet store part v j → HandsBack sheet store part w k
-    → (v.now ≡ w.now) × (v.ref_ptr ≡ w.ref_ptr) × (j ≡ k)
-gives-once sheet store part v w j k x y =
-    let same = x.gives.number_is ∙ sym y.gives.number_is in
-    (x.gives.words_are ∙ sym y.gives.words_are, x.stands ∙ ap (λ (n : ℕ). word_at store (first_of sheet part n)) same ∙ sym y.stands, same)
+-- the same words at the same place, or the same refusal
+abbrev pub Same : Result (Bor Words) Refusal → Result (Bor Words) Refusal → Type 0
+Same (Ok v) (Ok w) = (v.now ≡ w.now) × (v.ref_ptr ≡ w.ref_ptr)
+Same (Ok v) (Err r) = ⊥
+Same (Err r) (Ok w) = ⊥
+Same (Err r) (Err q) = r ≡ q
+
+-- two answers that keep the promise are the same: words and place, or number
+pub gives-once : (sheet : Words) (store : Bor Words) (part : ℕ) (v w : Result (Bor Words) Refusal) → HandsBack sheet store part v → HandsBack sheet store part w
+    → Same v w
+gives-once sheet store part (Ok v) (Ok w) x y = (x.gives.words_are ∙ sym y.gives.words_are, x.stands ∙ sym y.stands)
+gives-once sheet store part (Ok v) (Err r) x y = never-zero r (y.number_is ∙ sym x.gives.number_is)
+gives-once sheet store part (Err r) (Ok w) x y = never-zero r (x.number_is ∙ sym y.gives.number_is)
+gives-once sheet store part (Err r) (Err q) x y = number-once r q (x.number_is ∙ sym y.number_is)
 
 -- no words stand at the store's first
-pub none-stand : {sheet store : Words} {number k : ℕ} {s : Stretch} → s ≡ no_stretch k → (k ≡ 0 → ⊥) → Gives sheet store number [] k
-    → Stands sheet store number s
+pub none-stand : {sheet store : Words} {number : ℕ} (r : Refusal) → Gives sheet store number [] (refusal_number r) → Stands sheet store number (Err r)
 unfolding first_of part
-none-stand {sheet} {store} {number} {k} e d g =
-    subst (Stands sheet store number) (sym e) (record { gives = g; first-is = rw (ne_eqb k 0 d); ends = omega arith })
+none-stand r g = record { gives = g; first-is = rw (ne_eqb (refusal_number r) 0 (never-zero r)); ends = omega arith }
 
 -- the stretch handed back is the one that stands so
-pub hands-back : {sheet : Words} {store : Bor Words} {number : ℕ} {rows : Bor Words} (s : Stretch) → Stands sheet store.now number s
-    → rows.now ≡ part store.now s.first (s.first + s.count) → rows.ref_ptr ≡ word_at store s.first → HandsBack sheet store number rows s.refusal
+pub hands-back : {sheet : Words} {store : Bor Words} {number : ℕ} {rows : Bor Words} (s : Stretch) → Stands sheet store.now number (Ok s)
+    → rows.now ≡ part store.now s.first (s.first + s.count) → rows.ref_ptr ≡ word_at store s.first → HandsBack sheet store number (Ok rows)
 hands-back {store} s h w e =
     record {
       gives = record { words_are = w ∙ h.gives.words_are; number_is = h.gives.number_is };
       stands = e ∙ ap (word_at store) h.first-is;
     }
+
+pub none-back : {sheet : Words} (store : Bor Words) {number : ℕ} (r : Refusal) → Stands sheet store.now number (Err r)
+    → HandsBack sheet store number (Err r)
+unfolding part
+none-back store r h = h.gives
 
 module _ (sheet store : Words) (part : ℕ) where
   -- a refusal's number and no words

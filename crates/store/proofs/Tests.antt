@@ -1,19 +1,21 @@
 -- The store's tests, turn by turn and whole: what each way through the code has found.
 -- Assumes nothing.
-use Prim.Native.Nat.{ℕ, ◌+◌, ◌-◌, ◌<◌, ◌≤◌}
-use mathlib.Core.Path.{◌≡◌, sym, subst}
-use mathlib.Core.Bool.{Bool, true, false, ◌||◌}
+use Prim.Native.Nat.{ℕ, zero, suc, ◌+◌, ◌-◌, ◌<◌, ◌≤◌}
+use Rattle.std.specs.List.{list_all}
+use mathlib.Core.Path.{◌≡◌, refl, ap, subst}
+use mathlib.Core.Bool.{Bool, true, false, ◌&&◌, ◌||◌}
 use mathlib.Core.Logic.{⊎_elim}
 use mathlib.Core.List.{List, [], ◌∷◌}
 use native.Mathlib.Nat.{mul-zero}
 use native.Mathlib.Omega.{arith}
 use lib.Dec.{T, eqb}
-use lib.ListN.{length}
+use lib.ListN.{length, take, drop}
+use lib.Seq.{drop-cons}
 use borrow.Author.Tests.{lt-ltb, le-ltb, le-leb}
 use Rattle.lists.specs.Lists.{Words, at, all, from}
 use Rattle.lists.specs.Loops.{every}
 use Rattle.lists.proofs.Truth.{is_t, T→≡, F→≡, false→F, same_test, or_cases, and-fst, and-snd, and_both, all-get, all-make}
-use Rattle.lists.proofs.Truth.{mem-up_to, up_to-mem, mem-from, from-mem, eq→eqb, eqb→≡}
+use Rattle.lists.proofs.Truth.{mem-up_to, up_to-mem, eq→eqb, eqb→≡}
 use Rattle.lists.proofs.Loops.{no, every-from, every-at}
 use Rattle.rows.specs.Rows.{cut, rising, no_key_twice}
 use Rattle.rows.specs.Regions.{sound_region, sound_side}
@@ -22,28 +24,16 @@ use Rattle.meaning.specs.Plan.{kept, columns, size, store_length}
 use Rattle.meaning.specs.Store.{parts_of, count, part_words, rows_at, sound_part, sound_table, sound}
 use Rattle.laws.proofs.Lists.{here-or, Each, apart, together}
 use Rattle.laws.proofs.Columns.{columns-unkept}
-use Rattle.store.specs.Tests.{absent_zero, table_sound, ZeroTo}
+use Rattle.store.specs.Tests.{absent_zero, table_sound}
 
--- absent tables
-module _ (ws : Words) (n : ℕ) where
-  pub zero-start : ZeroTo ws n n
-  zero-start = record { zeros = λ j a b. absurd (omega arith) }
-
-  pub zero_more : (t : ℕ) → ZeroTo ws n t → at ws t ≡ 0 → ZeroTo ws n (t + 1)
-  zero_more t z e =
-      record { zeros = λ j a b. here-or (λ j. n ≤ j → j < t + 1 → at ws j ≡ 0) t j (λ a b. e) (λ d a b. z.zeros j a (omega arith)) a b }
-
-  pub zero-fails : (t : ℕ) → n ≤ t → t < 8 → (at ws t ≡ 0 → ⊥) → false ≡ absent_zero n ws
-  unfolding absent_zero
-  zero-fails t a b d =
-      no (all (λ t. eqb (at ws t) 0) (from n (8 - n)))
-      (λ h. d (eqb→≡ (at ws t) 0 (all-get (λ t. eqb (at ws t) 0) (from n (8 - n)) (is_t h) t (mem-from n (8 - n) t a (omega arith)))))
-
-  pub zero-end : (t : ℕ) → 8 ≤ t → ZeroTo ws n t → true ≡ absent_zero n ws
-  unfolding absent_zero
-  zero-end t a z =
-      sym (T→≡ (all (λ t. eqb (at ws t) 0) (from n (8 - n)))
-      (all-make (λ t. eqb (at ws t) 0) (from n (8 - n)) (λ j i. let b = from-mem n (8 - n) j i in eq→eqb (z.zeros j b.0 (omega (arith, b.1))))))
+-- absent tables: the counts that stand there, read by their places
+pub absent-is : (ws : Words) (n : ℕ) → n ≤ 8 → 8 ≤ length ws → list_all (λ c. eqb c 0) (take (8 - n) (drop n ws)) ≡ absent_zero n ws
+unfolding absent_zero
+absent-is ws n few long = go n (8 - n) (omega arith)
+  where
+    go : (i k : ℕ) → i + k ≤ length ws → list_all (λ c. eqb c 0) (take k (drop i ws)) ≡ all (λ t. eqb (at ws t) 0) (from i k)
+    go i zero l = refl
+    go i (suc k) l = rw (drop-cons ws i 0 (omega arith)) (ap (λ b. eqb (at ws i) 0 && b) (go (suc i) k (omega arith)))
 
 -- A table by its part, and the list
 module _ (s : Sheet) (ws : Words) (t : ℕ) (l : t < s.n) where

@@ -1,6 +1,6 @@
 -- The plan of a good sheet, and what functions say that are given the plan and not the sheet.
 -- Assumes nothing.
-use Rattle.std.specs.Prelude.{ℕ, ◌≡◌, Bool, true, cond, ltb, get_or}
+use Rattle.std.specs.Prelude.{ℕ, ◌≡◌, Bool, cond, ltb, get_or}
 use Rattle.lists.specs.Lists.{Words}
 use Rattle.lists.specs.Loops.{every}
 use Rattle.meaning.specs.Limits.{list_count}
@@ -34,10 +34,6 @@ part_at starts columns rooms slot number =
 
 unfoldable pub part_of : Plan → ℕ → Part
 part_of p number = part_at p.starts p.columns p.rooms (cond (ltb number p.tables) number list_count) number
-
--- the first t tables of a store are sound
-pub record SidesTo (p : Plan) (ws : Words) (t : ℕ) : Type 0 where
-  pub all : (s : Sheet) → GoodPlan s p → every (table_sound s ws) t ≡ true
 
 -- b says, for the sheet of which p is the plan, whether table t of a store is sound, all its tables are, the whole store is
 pub record TableIs (p : Plan) (ws : Words) (t : ℕ) (b : Bool) : Type 0 where

@@ -1,6 +1,6 @@
 -- The tests of a store as the code makes them: absent tables, a table with its part, the list's part; together they are `sound`.
 -- Assumes nothing.
-use Rattle.std.specs.Prelude.{ℕ, ◌-◌, ◌<◌, ◌≤◌, ◌≡◌, Bool, ◌&&◌, eqb}
+use Rattle.std.specs.Prelude.{ℕ, ◌-◌, Bool, ◌&&◌, eqb}
 use Rattle.lists.specs.Lists.{Words, at, all, from}
 use Rattle.meaning.specs.Limits.{most_tables}
 use Rattle.meaning.specs.Sheet.{Sheet}
@@ -13,7 +13,3 @@ absent_zero n ws = all (λ t. eqb (at ws t) 0) (from n (most_tables - n))
 -- all that is asked of table t
 unfoldable pub table_sound : Sheet → Words → ℕ → Bool
 table_sound s ws t = sound_part s ws t && sound_table s ws t
-
--- the counts from n to t are 0
-pub record ZeroTo (ws : Words) (n t : ℕ) : Type 0 where
-  pub zeros : (j : ℕ) → n ≤ j → j < t → at ws j ≡ 0

@@ -8,18 +8,18 @@ ghost use Rattle.rows.specs.Ranks.{found_row, found_key};
 ghost use Rattle.rows.specs.Marks.{spared, is_marked, Numbers, Run, Marking};
 ghost use Rattle.meaning.specs.Limits.{most_tables};
 ghost use Rattle.store.specs.Tests.{absent_zero};
-ghost use Rattle.store.specs.Parts.{count_in, rows_in, sound_in, Within, Kept, Wrote};
-ghost use Rattle.store.specs.Shows.{no_stretch, Stands, HandsBack};
-ghost use Rattle.store.specs.Plans.{OfSheet, part_at, part_of, SidesIs, SoundIs};
+ghost use Rattle.store.specs.Parts.{stop_of, words_in, count_in, rows_in, sound_in, Within, Kept, Wrote};
+ghost use Rattle.store.specs.Shows.{Stands, HandsBack};
+ghost use Rattle.store.specs.Plans.{OfSheet, part_of, TableIs, SidesIs, SoundIs};
 
-use sheet::{PARTS, TABLES, Verdict};
+use sheet::{PARTS, Refusal, TABLES};
 use sheet_plan::Plan;
 
-// What fill and change answer: rows taken from the list and rows added to it, or the number of the refusal.
-#[derive(Clone, Copy)]
-pub enum Answer {
-    Done(u64, u64),
-    Refused(u64),
+// What an accepted call did to the list: how many rows it took from it, and how many it added.
+#[derive(Clone, Copy, PartialEq, Eq, Debug)]
+pub struct Done {
+    pub taken: u64,
+    pub added: u64,
 }
 
 // Where a part of the store lies: the place of its count, of its first word, its columns and its room.
@@ -31,58 +31,60 @@ pub struct Part {
     pub room: usize,
 }
 
-// Where the rows stand that a show call hands back: their first word, and how many words they are; and the refusal's number, 0 if there is none.
-#[derive(Clone, Copy)]
+impl Part {
+    // How many rows stand in it.
+    pub fn count(self, store: &[u64]) -> usize
+        requires { Within self store.now }
+        ensures { result ≡ count_in self store.now }
+    {
+        store[self.slot] as usize
+    }
+
+    // The place behind its last word.
+    pub fn end(self) -> usize
+        requires { stop_of self ≤ usize.MAX }
+        ensures { result ≡ stop_of self }
+    {
+        self.start + self.room * self.columns
+    }
+
+    // Its words: its rows, and what room is left behind them.
+    pub fn words<'a>(self, store: &'a [u64]) -> &'a [u64]
+        requires { Within self store.now }
+        ensures { result.now ≡ words_in self store.now }
+    {
+        &store[self.start..self.end()]
+    }
+}
+
+// Where the rows stand that a show call hands back: their first word, and how many words they are.
+#[derive(Clone, Copy, PartialEq, Eq, Debug, Default)]
 pub struct Stretch {
-    pub refusal: u64,
     pub first: usize,
     pub count: usize,
 }
 
-// Where part `number` lies, with its count at `slot`: a plan is large, so the three arrays that say it are lent.
-fn part_at<'a>(
-    starts: &'a [usize; PARTS + 1],
-    columns: &'a [usize; PARTS],
-    rooms: &'a [usize; PARTS],
-    slot: usize,
-    number: usize,
-) -> Part
-    requires { number ≤ most_tables }
-    ensures { result ≡ part_at starts.now columns.now rooms.now slot number }
+// Where part `number` lies: a table's, or at n (tables) the list's.
+pub fn part_of(plan: &Plan, number: usize) -> Part
+    requires number_le_tables { number ≤ plan.now.tables }
+    requires tables_le_most_tables { plan.now.tables ≤ most_tables }
+    ensures { result ≡ part_of plan.now number }
 {
     Part {
-        slot: slot,
-        start: starts[number],
-        columns: columns[number],
-        room: rooms[number],
+        slot: if number < plan.tables { number } else { TABLES },
+        start: plan.starts[number],
+        columns: plan.columns[number],
+        room: plan.rooms[number],
     }
-}
-
-// Where part `number` lies: a table's, or at n (tables) the list's.
-pub fn part_of(plan: Plan, number: usize) -> Part
-    requires number_le_tables { number ≤ plan.tables }
-    requires tables_le_most_tables { plan.tables ≤ most_tables }
-    ensures { result ≡ part_of plan number }
-{
-    if number < plan.tables {
-        return part_at(&plan.starts, &plan.columns, &plan.rooms, number, number);
-    }
-    part_at(&plan.starts, &plan.columns, &plan.rooms, TABLES, number)
 }
 
 // Whether the counts of the tables from n to 7, which the sheet does not have, are 0.
 fn absent_zero(store: &[u64], n: usize) -> bool
-    requires { most_tables ≤ length store.now }
+    requires few { n ≤ most_tables }
+    requires long { most_tables ≤ length store.now }
     ensures { result ≡ absent_zero n store.now }
 {
-    let mut t = n;
-    while t < TABLES {
-        if store[t] != 0 {
-            return false;
-        }
-        t += 1;
-    }
-    true
+    store[n..TABLES].iter().all(|&count| count == 0)
 }
 
 // Whether a part is sound: its count within its room, its rows rising, the rest zero, and in a side table (keyed) no key twice.
@@ -91,52 +93,39 @@ fn part_sound(store: &[u64], p: Part, keyed: bool) -> bool
     requires columns_nonzero { keyed ≡ true → 0 < p.columns }
     ensures { result ≡ sound_in p keyed store.now }
 {
-    let slot = p.slot;
-    let from = p.start;
-    let to = from + p.room * p.columns;
-    let count = store[slot] as usize;
     if keyed {
-        return rows::sound_side(&store[from..to], p.columns, p.room, count);
+        return rows::sound_side(p.words(store), p.columns, p.room, p.count(store));
     }
-    rows::sound_region(&store[from..to], p.columns, p.room, count)
+    rows::sound_region(p.words(store), p.columns, p.room, p.count(store))
 }
 
-// Whether a table is sound: its part, or if it is unkept its count, which is then 0.
-fn table_sound(store: &[u64], p: Part, kept: u64) -> bool
-    requires within { Within p store.now }
-    requires columns_nonzero { (kept ≡ 0 → ⊥) → 0 < p.columns }
-    ensures { result ≡ cond (eqb kept 0) (eqb (count_in p store.now) 0) (sound_in p true store.now) }
+// Whether table t is sound: its part, or if it is unkept its count, which is then 0.
+fn table_sound(plan: &Plan, store: &[u64], t: usize) -> bool
+    requires of_sheet { OfSheet plan.now }
+    requires store_len { length store.now ≡ plan.now.store }
+    requires t_lt_tables { t < plan.now.tables }
+    ensures { TableIs plan.now store.now t result }
 {
-    if kept == 0 {
-        let slot = p.slot;
-        return store[slot] == 0;
+    let p = part_of(plan, t);
+    if plan.kept[t] == 0 {
+        return p.count(store) == 0;
     }
     part_sound(store, p, true)
 }
 
-fn sides_sound(plan: Plan, store: &[u64]) -> bool
-    requires of_sheet { OfSheet plan }
-    requires store_len { length store.now ≡ plan.store }
-    ensures { SidesIs plan store.now result }
+// Whether all tables are sound.
+fn sides_sound(plan: &Plan, store: &[u64]) -> bool
+    requires of_sheet { OfSheet plan.now }
+    requires store_len { length store.now ≡ plan.now.store }
+    ensures { SidesIs plan.now store.now result }
 {
-    let n = plan.tables;
-    let mut t = 0;
-    while t < n {
-        let p = part_at(&plan.starts, &plan.columns, &plan.rooms, t, t);
-        let kept = plan.kept[t];
-        if table_sound(store, p, kept) {
-            t += 1;
-        } else {
-            return false;
-        }
-    }
-    true
+    (0..plan.tables).all(|t| table_sound(plan, store, t))
 }
 
 // Refusal 7: whether any run of words is a sound store of the sheet of which this is the plan.
-pub fn is_sound(plan: Plan, store: &[u64]) -> bool
-    requires { OfSheet plan }
-    ensures { SoundIs plan store.now result }
+pub fn is_sound(plan: &Plan, store: &[u64]) -> bool
+    requires { OfSheet plan.now }
+    ensures { SoundIs plan.now store.now result }
 {
     if store.len() != plan.store {
         return false;
@@ -147,66 +136,39 @@ pub fn is_sound(plan: Plan, store: &[u64]) -> bool
     if !sides_sound(plan, store) {
         return false;
     }
-    let p = part_at(
-        &plan.starts,
-        &plan.columns,
-        &plan.rooms,
-        TABLES,
-        plan.tables,
-    );
-    part_sound(store, p, false)
+    part_sound(store, part_of(plan, plan.tables), false)
 }
 
-// A refusal's: no words, from the first on.
-fn no_stretch(refusal: u64) -> Stretch
-    ensures { result ≡ no_stretch refusal }
-{
-    Stretch {
-        refusal: refusal,
-        first: 0,
-        count: 0,
-    }
-}
-
-// Where the rows of part `number` stand, a table's or at n the list's: none for an unkept table, and none from the first word on in a refusal.
-pub fn find_stretch(sheet: &[u64], store: &[u64], number: u64) -> Stretch
+// Where the rows of part `number` stand, a table's or at n the list's: none for an unkept table.
+pub fn find_stretch(sheet: &[u64], store: &[u64], number: u64) -> Result<Stretch, Refusal>
     ensures { Stands sheet.now store.now number result }
 {
-    let checked = sheet_plan::check(sheet);
-    let v = checked.verdict;
-    let plan = checked.plan;
-    let Verdict::Good = v else {
-        return no_stretch(sheet::number_of(v));
-    };
+    let plan = sheet_plan::check(sheet)?;
     if store.len() != plan.store {
-        return no_stretch(4);
+        return Err(Refusal::WrongLength);
     }
     let n = plan.tables as u64;
     if n < number {
-        return no_stretch(5);
+        return Err(Refusal::BadRequest);
     }
-    if !is_sound(plan, store) {
-        return no_stretch(7);
+    if !is_sound(&plan, store) {
+        return Err(Refusal::NotSound);
     }
-    let p = part_of(plan, number as usize);
-    let slot = p.slot;
-    let count = store[slot] as usize;
-    Stretch {
-        refusal: 0,
+    let p = part_of(&plan, number as usize);
+    Ok(Stretch {
         first: p.start,
-        count: count * p.columns,
-    }
+        count: p.count(store) * p.columns,
+    })
 }
 
-// The rows of part `number`: the stretch of the store that holds them. A refusal's number goes into the lent word, 0 if there is none.
-pub fn show<'a>(sheet: &[u64], store: &'a [u64], number: u64, refusal: &mut u64) -> &'a [u64]
-    ensures { HandsBack sheet.now store.entry number result refusal.new }
+// The rows of part `number`: the stretch of the store that holds them.
+pub fn show<'a>(sheet: &[u64], store: &'a [u64], number: u64) -> Result<&'a [u64], Refusal>
+    ensures { HandsBack sheet.now store.entry number result }
 {
-    let s = find_stretch(sheet, store, number);
-    *refusal = s.refusal;
+    let s = find_stretch(sheet, store, number)?;
     let from = s.first;
     let to = from + s.count;
-    &store[from..to]
+    Ok(&store[from..to])
 }
 
 // Where the row with this key stands in a side table's part.
@@ -215,11 +177,7 @@ pub fn find_key(store: &[u64], p: Part, key: u64) -> Option<usize>
     requires columns_nonzero { 0 < p.columns }
     ensures { result ≡ found_key key (rows_in p store.now) }
 {
-    let slot = p.slot;
-    let from = p.start;
-    let to = from + p.room * p.columns;
-    let count = store[slot] as usize;
-    rows::find_key(&store[from..to], p.columns, count, key)
+    rows::find_key(p.words(store), p.columns, p.count(store), key)
 }
 
 // Where the first row that equals r stands in the part.
@@ -228,11 +186,7 @@ pub fn find_row(store: &[u64], p: Part, r: &[u64]) -> Option<usize>
     requires r_len { length r.now ≡ p.columns }
     ensures { result ≡ found_row r.now (rows_in p store.now) }
 {
-    let slot = p.slot;
-    let from = p.start;
-    let to = from + p.room * p.columns;
-    let count = store[slot] as usize;
-    rows::find(&store[from..to], p.columns, count, r)
+    rows::find(p.words(store), p.columns, p.count(store), r)
 }
 
 // Marks one more of the part's rows that equal r, if one is left without a mark: its number comes into the run of the first `many` numbers.
@@ -243,11 +197,7 @@ pub fn mark_row(store: &[u64], p: Part, r: &[u64], numbers: &mut [u16], many: us
     ensures { Marking r.now (rows_in p store.now)
         (take many numbers.old) (take (many + one result) numbers.new) result }
 {
-    let slot = p.slot;
-    let from = p.start;
-    let to = from + p.room * p.columns;
-    let count = store[slot] as usize;
-    rows::mark(&store[from..to], p.columns, count, r, numbers, many)
+    rows::mark(p.words(store), p.columns, p.count(store), r, numbers, many)
 }
 
 // r comes into the part at its place; the count is one more.
@@ -257,13 +207,9 @@ pub fn put_row(store: &mut [u64], p: Part, r: &[u64])
     requires r_len { length r.now ≡ p.columns }
     ensures { Wrote p (put_row r.now (rows_in p store.old)) store.old store.new }
 {
-    let slot = p.slot;
-    let from = p.start;
-    let w = p.columns;
-    let to = from + p.room * w;
-    let count = store[slot] as usize;
-    rows::put(&mut store[from..to], w, count, r);
-    store[slot] = (count + 1) as u64;
+    let count = p.count(store);
+    rows::put(&mut store[p.start..p.end()], p.columns, count, r);
+    store[p.slot] = (count + 1) as u64;
 }
 
 // One row that equals r, if there is one, goes out of the part.
@@ -272,13 +218,9 @@ pub fn take_row(store: &mut [u64], p: Part, r: &[u64])
     requires r_len { length r.now ≡ p.columns }
     ensures { Wrote p (take_row r.now (rows_in p store.old)) store.old store.new }
 {
-    let slot = p.slot;
-    let from = p.start;
-    let w = p.columns;
-    let to = from + p.room * w;
-    let count = store[slot] as usize;
-    let left = rows::take(&mut store[from..to], w, count, r);
-    store[slot] = left as u64;
+    let count = p.count(store);
+    let left = rows::take(&mut store[p.start..p.end()], p.columns, count, r);
+    store[p.slot] = left as u64;
 }
 
 // r stands over row `at` of the part, where it keeps the order.
@@ -289,12 +231,8 @@ pub fn replace_row(store: &mut [u64], p: Part, at: usize, r: &[u64])
     requires t { T (rising (set (rows_in p store.old) at r.now)) }
     ensures { Wrote p (set (rows_in p store.old) at r.now) store.old store.new }
 {
-    let slot = p.slot;
-    let from = p.start;
-    let w = p.columns;
-    let to = from + p.room * w;
-    let count = store[slot] as usize;
-    rows::replace(&mut store[from..to], w, count, at, r);
+    let count = p.count(store);
+    rows::replace(&mut store[p.start..p.end()], p.columns, count, at, r);
 }
 
 // The rows of the run's numbers go out of the part, in one pass.
@@ -303,11 +241,7 @@ pub fn take_marked(store: &mut [u64], p: Part, numbers: &[u16])
     requires numbers { Numbers (count_in p store.old) numbers.now }
     ensures { Wrote p (spared (is_marked numbers.now) (rows_in p store.old)) store.old store.new }
 {
-    let slot = p.slot;
-    let from = p.start;
-    let w = p.columns;
-    let to = from + p.room * w;
-    let count = store[slot] as usize;
-    rows::take_marked(&mut store[from..to], w, count, numbers);
-    store[slot] = (count - numbers.len()) as u64;
+    let count = p.count(store);
+    rows::take_marked(&mut store[p.start..p.end()], p.columns, count, numbers);
+    store[p.slot] = (count - numbers.len()) as u64;
 }

@@ -30,22 +30,19 @@ unfolding answer_text
 refused-answer a h = failing _ _ _ (ne_eqb a.number 0 h)
 
 pub good-answer : (a : PlanAnswer) → a.number ≡ 0
-    → head_text a.root a.store ++ lines_up_to (line_of a.kept a.columns a.dep a.need) a.tables ≡ answer_text a
+    → head_text a.root a.store ++ lines_in a ≡ answer_text a
 unfolding answer_text
 good-answer a h = passed _ _ _ (eq-eqb a.number 0 h)
 
 -- table t's line in the answer is its line in the plan, and so are all of them
 line-back : (s : Sheet) → Good s → (t : ℕ) → t < s.n
-    → let a = answer_of (good_plan s) in
-    line_of a.kept a.columns a.dep a.need t ≡ table_text t (table_plan s t)
+    → line_of (answer_of (good_plan s)) t ≡ table_text t (table_plan s t)
 unfolding line_of table_text
 line-back s good t h =
     let b = good-read-back s good.counts.eight t h (good.narrow t h) in
     rw (b.kept-is, b.columns-are, b.dep-is, b.need-is, table-in s t h)
 
-good-lines : (s : Sheet) → Good s
-    → let a = answer_of (good_plan s) in
-    lines_in a.kept a.columns a.dep a.need a.tables ≡ tables_text 0 (good_plan s).tables
+good-lines : (s : Sheet) → Good s → lines_in (answer_of (good_plan s)) ≡ tables_text 0 (good_plan s).tables
 unfolding answer_of
 good-lines s good =
     ap (lines_up_to _) (tables-many s) ∙ lines_same _ (λ t. table_text t (table_plan s t)) s.n (line-back s good) ∙ good-tables s

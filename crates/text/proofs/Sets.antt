@@ -1,7 +1,7 @@
 -- Laws of the text of a set: its numbers one by one, after a comma or as the first, and `-` for none.
 -- Assumes nothing.
 use Prim.Native.Nat.{ℕ, ◌+◌, ◌*◌, ◌≤◌, ◌<◌}
-use mathlib.Core.Path.{◌≡◌, refl, sym, ap, ◌∙◌}
+use mathlib.Core.Path.{◌≡◌, sym, ap, ◌∙◌}
 use mathlib.Core.Bool.{Bool, true, false, cond}
 use mathlib.Core.List.{List, [], ◌∷◌, ◌++◌, append-nil, append_assoc}
 use native.Mathlib.Nat.{add-zero, zero-add, le_antisymm}
@@ -16,7 +16,7 @@ use Rattle.sheet.proofs.Numbers.{from_more}
 use Rattle.text.specs.Reading.{is_some}
 use Rattle.text.specs.Printing.{decimal, commas, parted, set_text, member_text}
 use Rattle.text.specs.Writing.{PutAt}
-use Rattle.text.proofs.Writes.{decimal_digit, decimal-some, wrote-digit, wrote_none, wrote_then, wrote-byte, wrote-length}
+use Rattle.text.proofs.Writes.{decimal_digit, decimal-some, wrote-digit, wrote_none, wrote_then, wrote-byte}
 
 -- the numbers below k + 1 that pass
 select-more : (p : ℕ → Bool) (k : ℕ) → select p (up_to (k + 1)) ≡ select p (up_to k) ++ cond (p k) (k ∷ []) []
@@ -49,7 +49,6 @@ pub record PassingPut (p : ℕ → Bool) (s : List ℕ) (at k : ℕ) (s' : List 
   pub wrote : PutAt s at (parted (select p (up_to k))) s' end
   pub short : end ≤ at + 2 * k
   pub not-before : at ≤ end
-  pub long : length s' ≡ length s
 
 pub member-first : (s : List ℕ) (from at x : ℕ) → x < 10 → at ≤ from → PutAt s at (member_text (ltb from at) x) (set s at (48 + x)) (at + 1)
 unfolding member_text
@@ -81,11 +80,11 @@ module _ (s s' : List ℕ) (at end : ℕ) where
 module _ (p : ℕ → Bool) (s : List ℕ) (at : ℕ) where
   pub passing-none : PassingPut p s at 0 s at
   unfolding parted
-  passing-none = record { wrote = wrote_none s at; short = omega arith; not-before = omega arith; long = refl }
+  passing-none = record { wrote = wrote_none s at; short = omega arith; not-before = omega arith }
 
   module _ (k : ℕ) (s' : List ℕ) (end : ℕ) (w : PassingPut p s at k s' end) where
     pub passing-over : p k ≡ false → PassingPut p s at (k + 1) s' end
-    passing-over h = record { wrote = rw (select-more p k, h, append-nil) w.wrote; short = omega arith; not-before = w.not-before; long = w.long }
+    passing-over h = record { wrote = rw (select-more p k, h, append-nil) w.wrote; short = omega arith; not-before = w.not-before }
 
     pub passing-in : p k ≡ true → k < 10 → (s'' : List ℕ) (end'' : ℕ) → PutAt s' end (member_text (ltb at end) k) s'' end''
         → PassingPut p s at (k + 1) s'' end''
@@ -95,7 +94,6 @@ module _ (p : ℕ → Bool) (s : List ℕ) (at : ℕ) where
           wrote = rw (select-more p k, h, parted-more (select p (up_to k)) k) (wrote_then w.wrote (rw e at m));
           short = omega (arith, m.end_is, member-short (ltb at end) k l);
           not-before = omega (arith, m.end_is);
-          long = wrote-length m ∙ w.long;
         }
 
     pub set-none : (n : ℕ) → k ≤ n → n ≤ k → end ≡ at → PutAt s at (set_text (select p (up_to n))) (set s' at 45) (at + 1)

@@ -1,33 +1,43 @@
 -- Laws of writing: bytes after bytes are their text, and a number's digits one by one.
 -- Assumes nothing.
-use Prim.Native.Nat.{ℕ, zero, suc, ◌+◌, ◌/◌, ◌%◌, ◌^◌, ◌≤◌, ◌<◌}
+use Prim.Native.Nat.{ℕ, zero, suc, ◌+◌, ◌-◌, ◌/◌, ◌%◌, ◌^◌, ◌≤◌, ◌<◌}
 use mathlib.Core.Path.{◌≡◌, refl, sym, ap, ◌∙◌}
 use mathlib.Core.Bool.{Bool, true, false, cond}
 use mathlib.Core.List.{List, [], ◌∷◌, ◌++◌}
 use native.Mathlib.Nat.{add-zero, div-lt_iff_lt-mul, pow-suc}
-use native.Mathlib.Numerals.{add-one}
 use native.Mathlib.Omega.{arith}
 use lib.Dec.{ltb}
-use lib.ListN.{length, get_or, take, set, length-append}
-use lib.Seq.{sets, take-suc, take_all, length-sets}
+use lib.ListN.{length, take, drop, set, length-append}
+use lib.Seq.{sets, sets-eq, take_all, length-sets}
+use borrow.Rule.Slice.PartMut.{put_mid}
+use Rattle.std.proofs.lemmas.Slice.{put_mid-paste}
 use borrow.Author.Tests.{lt-ltb, le-ltb, ltb-true, ltb-false}
-use Rattle.text.specs.Reading.{Text}
 use Rattle.text.specs.Printing.{digits, decimal}
 use Rattle.text.specs.Writing.{PutAt}
 
-sets-append : (s : List ℕ) (at : ℕ) (xs ys : Text) → sets s at (xs ++ ys) ≡ sets (sets s at xs) (at + length xs) ys
-sets-append s at [] ys = rw add-zero
-sets-append s at (x ∷ xs) ys =
-    let e : at + suc (length xs) ≡ suc at + length xs = omega arith in
-    sets-append (set s at x) (suc at) xs ys ∙ rw e
+module _ {A : Type 0} where
+  sets-append : (s : List A) (at : ℕ) (xs ys : List A) → sets s at (xs ++ ys) ≡ sets (sets s at xs) (at + length xs) ys
+  sets-append s at [] ys = rw add-zero
+  sets-append s at (x ∷ xs) ys =
+      let e : at + suc (length xs) ≡ suc at + length xs = omega arith in
+      sets-append (set s at x) (suc at) xs ys ∙ rw e
 
-pub wrote_none : (s : List ℕ) (at : ℕ) → PutAt s at [] s at
-wrote_none s at = record { new_is = refl; end_is = omega arith }
+  pub wrote_none : (s : List A) (at : ℕ) → PutAt s at [] s at
+  wrote_none s at = record { new_is = refl; end_is = omega arith }
 
-pub wrote-byte : (s : List ℕ) (at v : ℕ) → PutAt s at (v ∷ []) (set s at v) (at + 1)
-wrote-byte s at v = record { new_is = refl; end_is = refl }
+  pub wrote-byte : (s : List A) (at : ℕ) (v : A) → PutAt s at (v ∷ []) (set s at v) (at + 1)
+  wrote-byte s at v = record { new_is = refl; end_is = refl }
 
-module _ {s s' s'' : List ℕ} {at at' at'' : ℕ} {xs ys : Text} where
+  -- items copied into the part from `at` to `end`
+  pub wrote-part : (s items : List A) (at end : ℕ) → end ≡ at + length items → end ≤ length s → PutAt s at items (put_mid at (end - at) s items) end
+  wrote-part s items at end e h =
+      record {
+        new_is = put_mid-paste at (end - at) s items items (length items) refl (omega arith) refl
+            ∙ ap (λ (l : List A). take at s ++ l ++ drop (at + length items) s) (take_all (length items) items (omega arith)) ∙ sym (sets-eq items s at (omega arith));
+        end_is = e;
+      }
+
+module _ {A : Type 0} {s s' s'' : List A} {at at' at'' : ℕ} {xs ys : List A} where
   pub wrote_then : PutAt s at xs s' at' → PutAt s' at' ys s'' at'' → PutAt s at (xs ++ ys) s'' at''
   wrote_then w w' =
       record {
@@ -35,23 +45,9 @@ module _ {s s' s'' : List ℕ} {at at' at'' : ℕ} {xs ys : Text} where
         end_is = w'.end_is ∙ rw (w.end_is, length-append) (omega arith);
       }
 
-module _ {s s' : List ℕ} {at at' : ℕ} {xs : Text} where
+module _ {A : Type 0} {s s' : List A} {at at' : ℕ} {xs : List A} where
   pub wrote-length : PutAt s at xs s' at' → length s' ≡ length s
   wrote-length w = ap length w.new_is ∙ length-sets s at xs
-
--- a copy, one byte on
-pub put-more : (s s' : List ℕ) (bytes : Text) (at i : ℕ) → i < length bytes → PutAt s at (take i bytes) s' (at + i)
-    → PutAt s at (take (i + 1) bytes) (set s' (at + i) (get_or bytes i 0)) (at + (i + 1))
-put-more s s' bytes at i h w =
-    let e : at + (i + 1) ≡ at + i + 1 = omega arith in
-    rw (e, add-one i, take-suc bytes i 0 h) (wrote_then w (wrote-byte s' (at + i) (get_or bytes i 0)))
-
-pub put-none : (s : List ℕ) (at : ℕ) → PutAt s at [] s (at + 0)
-put-none s at = record { new_is = refl; end_is = refl }
-
-pub put_all : (s s' : List ℕ) (bytes : Text) (at i : ℕ) → length bytes ≤ i → PutAt s at (take i bytes) s' (at + i) → i ≤ length bytes
-    → PutAt s at bytes s' (at + i)
-put_all s s' bytes at i h w l = rw (take_all i bytes h) at w
 
 -- a number's digits
 pub digits-one : (k n : ℕ) → n < 10 → digits (suc k) n ≡ (48 + n) ∷ []
@@ -128,10 +124,10 @@ module _ (s s' : List ℕ) (at n end : ℕ) where
   pub tens-fit : 10 ≤ n → n < 2 ^ 64 → PutAt s at (decimal (n / 10)) s' end → at + 20 ≤ length s → end < length s'
   tens-fit h l w f = omega (arith, w.end_is, wrote-length w, tens-short n h l)
 
--- the same bytes by another name
-pub wrote_as : {s s' : List ℕ} {at at' : ℕ} {xs ys : Text} → xs ≡ ys → PutAt s at xs s' at' → PutAt s at ys s' at'
+-- the same items by another name
+pub wrote_as : {A : Type 0} {s s' : List A} {at at' : ℕ} {xs ys : List A} → xs ≡ ys → PutAt s at xs s' at' → PutAt s at ys s' at'
 wrote_as e w = rw e at w
 
 -- what is written is one buffer and one end
-pub wrote-once : {s s' s'' : List ℕ} {at at' at'' : ℕ} {xs : Text} → PutAt s at xs s' at' → PutAt s at xs s'' at'' → (s' ≡ s'') × (at' ≡ at'')
+pub wrote-once : {A : Type 0} {s s' s'' : List A} {at at' at'' : ℕ} {xs : List A} → PutAt s at xs s' at' → PutAt s at xs s'' at'' → (s' ≡ s'') × (at' ≡ at'')
 wrote-once w m = (w.new_is ∙ sym m.new_is, w.end_is ∙ sym m.end_is)

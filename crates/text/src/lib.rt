@@ -8,7 +8,7 @@ ghost use Rattle.std.specs.Prelude.{◌≤◌};
 ghost use Rattle.text.specs.Outcomes.{reply_to};
 ghost use Rattle.text.specs.Writing.{page, PutAt};
 
-pub use printing::PAGE;
+pub use printing::{PAGE, put};
 use printing::{put_plan_of, put_unread};
 use reading::HELD;
 pub use reading::Reader;

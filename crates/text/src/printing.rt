@@ -4,22 +4,19 @@ ghost use Rattle.text.specs.Printing.{decimal, member_text, set_text, head_text,
 ghost use Rattle.meaning.specs.Limits.{most_tables};
 ghost use Rattle.meaning.specs.Plan.{plan};
 ghost use Rattle.sheet_plan.specs.Marks.{marked_in};
-ghost use Rattle.text.specs.Laid.{sets_in, line_in, lines_in, answer_text};
+ghost use Rattle.text.specs.Laid.{sets_in, line_of, lines_in, answer_text};
 ghost use Rattle.text.specs.Writing.{page, PutAt};
 
 use plan_answer::PlanAnswer;
 
-// Writes the bytes from `at` on, and answers where they end.
-fn put(bytes: &[u8], out: &mut [u8], at: usize) -> usize
-    requires { at + length bytes.now ≤ length out.old }
-    ensures { PutAt out.old at bytes.now out.new result }
+// Writes the items from `at` on, and answers where they end.
+pub fn put<T: Copy>(items: &[T], out: &mut [T], at: usize) -> usize
+    requires { at + length items.now ≤ length out.old }
+    ensures { PutAt out.old at items.now out.new result }
 {
-    let mut i = 0;
-    while i < bytes.len() {
-        out[at + i] = bytes[i];
-        i += 1;
-    }
-    at + i
+    let end = at + items.len();
+    out[at..end].copy_from_slice(items);
+    end
 }
 
 // Writes a number's digits, at most 20.
@@ -60,10 +57,7 @@ fn put_set(marks: &[u64], t: usize, out: &mut [u8], at: usize) -> usize
     ensures upper_bound { result ≤ at + 16 }
 {
     let mut end = at;
-    let mut i: u8 = 0;
-    while i < 8 {
-        let x = i;
-        i += 1;
+    for x in 0..8u8 {
         if marks[8 * t + x as usize] == 1 {
             end = put_member(x, out, at, end);
         }
@@ -98,46 +92,27 @@ fn put_named(name: &[u8], marks: &[u64], t: usize, out: &mut [u8], at: usize) ->
     put_set(marks, t, out, end)
 }
 
-fn put_sets(
-    columns: &[u64],
-    dep: &[u64],
-    need: &[u64],
-    t: usize,
-    out: &mut [u8],
-    at: usize,
-) -> usize
-    requires t_in_bounds { 8 * t + 8 ≤ length columns.now }
-    requires t_in_bounds_2 { 8 * t + 8 ≤ length dep.now }
-    requires t_in_bounds_3 { 8 * t + 8 ≤ length need.now }
+fn put_sets(answer: &PlanAnswer, t: usize, out: &mut [u8], at: usize) -> usize
+    requires t_bound { t < most_tables }
     requires at_in_bounds { at + 66 ≤ length out.old }
-    ensures put_at { PutAt out.old at (sets_in columns.now dep.now need.now t) out.new result }
+    ensures put_at { PutAt out.old at (sets_in answer.now t) out.new result }
     ensures upper_bound { result ≤ at + 66 }
 {
-    let a = put_named(b" cols ", columns, t, out, at);
-    let b = put_named(b" dep ", dep, t, out, a);
-    put_named(b" need ", need, t, out, b)
+    let a = put_named(b" cols ", &answer.columns, t, out, at);
+    let b = put_named(b" dep ", &answer.dep, t, out, a);
+    put_named(b" need ", &answer.need, t, out, b)
 }
 
 // Writes table t's line.
-fn put_line(
-    kept: u64,
-    columns: &[u64],
-    dep: &[u64],
-    need: &[u64],
-    t: usize,
-    out: &mut [u8],
-    at: usize,
-) -> usize
-    requires t_in_bounds { 8 * t + 8 ≤ length columns.now }
-    requires t_in_bounds_2 { 8 * t + 8 ≤ length dep.now }
-    requires t_in_bounds_3 { 8 * t + 8 ≤ length need.now }
+fn put_line(answer: &PlanAnswer, t: usize, out: &mut [u8], at: usize) -> usize
+    requires t_bound { t < most_tables }
     requires at_in_bounds { at + 115 ≤ length out.old }
-    ensures put_at { PutAt out.old at (line_in t kept columns.now dep.now need.now) out.new result }
+    ensures put_at { PutAt out.old at (line_of answer.now t) out.new result }
     ensures upper_bound { result ≤ at + 115 }
 {
     let a = put_number(t as u64, out, at);
-    let b = put_field(b" kept ", kept, out, a);
-    let c = put_sets(columns, dep, need, t, out, b);
+    let b = put_field(b" kept ", answer.kept[t], out, a);
+    let c = put_sets(answer, t, out, b);
     put(b"\n", out, c)
 }
 
@@ -160,29 +135,16 @@ fn put_refused(number: u64, out: &mut [u8], at: usize) -> usize
     put(b"\n", out, a)
 }
 
-// Writes the lines of tables 0 to n - 1.
-fn put_lines(
-    n: usize,
-    kept: &[u64],
-    columns: &[u64],
-    dep: &[u64],
-    need: &[u64],
-    out: &mut [u8],
-    at: usize,
-) -> usize
-    requires n_in_bounds { n ≤ length kept.now }
-    requires n_in_bounds_2 { 8 * n ≤ length columns.now }
-    requires n_in_bounds_3 { 8 * n ≤ length dep.now }
-    requires n_in_bounds_4 { 8 * n ≤ length need.now }
-    requires n_in_bounds_5 { at + 115 * n ≤ length out.old }
-    ensures put_at { PutAt out.old at (lines_in kept.now columns.now dep.now need.now n) out.new result }
-    ensures upper_bound { result ≤ at + 115 * n }
+// Writes the tables' lines.
+fn put_lines(answer: &PlanAnswer, out: &mut [u8], at: usize) -> usize
+    requires tables_le_most_tables { answer.now.tables ≤ most_tables }
+    requires tables_in_bounds { at + 115 * answer.now.tables ≤ length out.old }
+    ensures put_at { PutAt out.old at (lines_in answer.now) out.new result }
+    ensures upper_bound { result ≤ at + 115 * answer.now.tables }
 {
     let mut end = at;
-    let mut t = 0;
-    while t < n {
-        end = put_line(kept[t], columns, dep, need, t, out, end);
-        t += 1;
+    for t in 0..answer.tables {
+        end = put_line(answer, t, out, end);
     }
     end
 }
@@ -200,12 +162,8 @@ fn put_plan(a: PlanAnswer, out: &mut [u8]) -> usize
     if a.number != 0 {
         return put_refused(a.number, out, 0);
     }
-    let kept = a.kept;
-    let columns = a.columns;
-    let dep = a.dep;
-    let need = a.need;
     let end = put_head(a.root as u64, a.store as u64, out, 0);
-    put_lines(a.tables, &kept, &columns, &dep, &need, out, end)
+    put_lines(&a, out, end)
 }
 
 // Writes the plan of any words, or `refused` and the number. There is room for every plan.

@@ -86,10 +86,8 @@ impl Reader {
     pub fn take_chunk(mut self, chunk: &[u8]) -> Self
         ensures { result ≡ after_bytes self chunk.now }
     {
-        let mut i = 0;
-        while i < chunk.len() {
-            self = self.take_byte(chunk[i]);
-            i += 1;
+        for &byte in chunk {
+            self = self.take_byte(byte);
         }
         self
     }

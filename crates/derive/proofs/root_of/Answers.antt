@@ -1,18 +1,15 @@
--- `root_of` meets its contract. The loop's invariant: the root is not before t.
+-- `root_of` meets its contract.
 -- Assumes nothing.
-use borrow.Author.Tests.{eqb-true, eqb-false}
-use Rattle.derive.proofs.Steps.{root-yes, root-no, past}
-use native.Mathlib.Omega.{arith}
+use Rattle.std.proofs.Common.{rules, tests, refl, ap, ◌∙◌}
+use Rattle.lists.specs.Loops.{first}
+use Rattle.lists.proofs.Chains.{first-from_find}
+use Rattle.sheet.specs.Tree.{root_no}
+use Rattle.derive.proofs.Steps.{root-test, first-root}
 use Rattle.derive.proofs.root_of.Goals as goal
-
-pub returns-then-e-edge_into : goal.returns-then-e-edge_into
-returns-then-e-edge_into c =
-    eqb-true _ _ (root-yes _ _ _ c.edge_into.ensures c.requires (omega arith) (omega arith))
-
-pub loop-t-preserved : goal.loop-t-preserved
-loop-t-preserved c =
-    past _ _ c.loop-t.invariant (eqb-false _ _ (root-no _ _ _ c.edge_into.ensures c.requires (omega arith)))
 
 pub returns : goal.returns
 returns c =
-    absurd (omega (arith, c.requires.root_in))
+    c.unwrap_or.ensures
+    ∙ first-from_find (root_no c.args.sheet.now) _ _ _ refl c.find.ensures.ran
+    (λ x b q k. rw (← root-test c.args.sheet.now x _ _ refl c.edges-e.ensures) (search (rules, tests)))
+    ∙ ap (first _) c.tables-n.ensures ∙ first-root _ c.requires

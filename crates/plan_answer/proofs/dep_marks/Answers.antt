@@ -1,21 +1,12 @@
--- `dep_marks` meets its contract. The loop's invariant: the places before i are marked.
+-- `dep_marks` meets its contract. The number of one call is named c too: what 64 calls gave, in the other c, is more than a search reads.
 -- Assumes nothing.
-use mathlib.Core.Path.{refl}
-use Rattle.lists.specs.Loops.{filled}
-use Rattle.lists.proofs.Loops.{filled_more, filled-end}
-use Rattle.plan_answer.specs.Answers.{dep_of}
+use Rattle.std.proofs.Common.{rules}
+use Rattle.sheet_plan.proofs.FromFn.{all-filled-from_from_fn}
+use Rattle.plan_answer.specs.Answers.{dep_at, dep_of}
 use Rattle.plan_answer.proofs.Marks.{dep-mark}
-use native.Mathlib.Omega.{arith}
 use Rattle.plan_answer.proofs.dep_marks.Goals as goal
-
-pub loop-i-init : goal.loop-i-init
-unfolding filled
-loop-i-init c = (omega arith, refl)
-
-pub loop-i-preserved : goal.loop-i-preserved
-loop-i-preserved c =
-    (omega arith, filled_more _ _ _ _ _ c.loop-i.invariant.1 (dep-mark _ _ _ _ c.depends.ensures c.mark_of.ensures))
 
 pub returns : goal.returns
 unfolding dep_of
-returns c = filled-end _ _ _ _ _ c.loop-i.invariant.0 c.loop-i-test.false c.loop-i.invariant.1
+returns c =
+    all-filled-from_from_fn _ _ (dep_at _) _ 64 c.from_fn.ensures.items (λ c r q s. search (rules, dep-mark))

@@ -1,19 +1,11 @@
--- `kept_columns` meets its contract. The loop's invariant: the places before i are filled.
+-- `kept_columns` meets its contract. The number of one call is named c too: what 64 calls gave, in the other c, is more than a search reads.
 -- Assumes nothing.
-use mathlib.Core.Path.{refl}
-use Rattle.lists.specs.Loops.{filled}
-use Rattle.lists.proofs.Loops.{filled_more, filled-end}
-use Rattle.plan_answer.specs.Answers.{kept_columns}
-use native.Mathlib.Omega.{arith}
+use Rattle.std.proofs.Common.{rules, tests}
+use Rattle.sheet_plan.proofs.FromFn.{all-filled-from_from_fn}
+use Rattle.plan_answer.specs.Answers.{kept_column, kept_columns}
 use Rattle.plan_answer.proofs.kept_columns.Goals as goal
 
-pub loop-i-init : goal.loop-i-init
-unfolding filled
-loop-i-init c = (omega arith, refl)
-
-pub loop-i-preserved : goal.loop-i-preserved
-loop-i-preserved c = (omega arith, filled_more _ _ _ _ _ c.loop-i.invariant.1 c.kept_column.ensures)
-
 pub returns : goal.returns
-unfolding kept_columns
-returns c = filled-end _ _ _ _ _ c.loop-i.invariant.0 c.loop-i-test.false c.loop-i.invariant.1
+unfolding kept_columns kept_column
+returns c =
+    all-filled-from_from_fn _ _ (kept_column _ _) _ 64 c.from_fn.ensures.items (λ c r q s. search (rules, tests))

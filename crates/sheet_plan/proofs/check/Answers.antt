@@ -1,15 +1,18 @@
--- `check` meets its contract: a plan beside a good verdict, and an empty one beside a refusal.
+-- `check` meets its contract: the plan of a sheet that passes, and the refusal of one that does not.
 -- Assumes nothing.
-use mathlib.Core.Path.{sym, ◌∙◌}
-use Rattle.sheet.proofs.Good.{good-zero, good-sheet}
-use Rattle.sheet_plan.proofs.Steps.{check-refused, check-good}
+use mathlib.Core.Path.{sym}
+use Rattle.std.proofs.lemmas.Result.{err_from_is_err_and}
+use Rattle.sheet.proofs.Good.{good-zero, good-sheet, refused-is}
+use Rattle.sheet_plan.proofs.Planning.{checked-good, checked-refused}
 use Rattle.sheet_plan.proofs.check.Goals as goal
 
-pub returns-in_default : goal.returns-in_default
-returns-in_default c = check-refused _ _ _ _ c.verdict_of-v.ensures c.in_default.is c.empty_plan-p.ensures
+pub returns-in_err-verdict_of : goal.returns-in_err-verdict_of
+returns-in_err-verdict_of c =
+    let p = err_from_is_err_and c.from_residual.result c.from_residual.ensures.1 in
+    rw (p.1, p.2) (checked-refused _ _ (refused-is _ _ (sym c.in_err-verdict_of.ensures)))
 
-pub plan_for-p-requires : goal.plan_for-p-requires
-plan_for-p-requires c = good-sheet _ (good-zero _ (sym c.verdict_of-v.ensures ∙ c.in-Good.is))
+pub plan_for-requires : goal.plan_for-requires
+plan_for-requires c = good-sheet _ (good-zero _ _ (sym c.in_ok-verdict_of.ensures))
 
 pub returns : goal.returns
-returns c = check-good _ _ _ c.verdict_of-v.ensures c.in-Good.is c.plan_for-p.ensures
+returns c = rw c.plan_for.ensures (checked-good _ (good-zero _ _ (sym c.in_ok-verdict_of.ensures)))

@@ -1,24 +1,13 @@
--- `columns_of` meets its contract. The loop's invariant: the parts before have their columns.
+-- `columns_of` meets its contract.
 -- Assumes nothing.
-use Rattle.lists.proofs.Loops.{filled_more}
+use Rattle.std.proofs.Common.{rules, arith}
+use Rattle.meaning.specs.Plan.{columns}
+use Rattle.sheet.proofs.Words.{n-is}
 use Rattle.sheet_plan.specs.Plans.{columns_of}
-use Rattle.sheet_plan.proofs.Steps.{parts-end}
-use native.Mathlib.Omega.{arith}
-use Rattle.lists.specs.Loops.{filled}
-use mathlib.Core.Path.{refl}
+use Rattle.sheet_plan.proofs.FromFn.{filled-from_from_fn}
 use Rattle.sheet_plan.proofs.columns_of.Goals as goal
-
-pub loop-part-init : goal.loop-part-init
-unfolding filled
-loop-part-init c = (omega arith, refl)
-
-pub columns_in-requires : goal.columns_in-requires
-columns_in-requires c =
-    (c.requires.0, (c.requires.1.0, (c.requires.1.1, omega arith)))
-
-pub loop-part-preserved : goal.loop-part-preserved
-loop-part-preserved c = (omega arith, filled_more _ _ _ _ _ c.loop-part.invariant.1 c.columns_in.ensures)
 
 pub returns : goal.returns
 unfolding columns_of
-returns c = parts-end _ _ _ _ _ (omega arith) (omega arith) c.loop-part.invariant.1
+returns c =
+    filled-from_from_fn _ _ (columns _) _ _ 9 c.from_fn.ensures.items (omega (arith, n-is c.args.sheet.now, c.requires.0.joined.rules.counts.tables-few)) (λ k r q s. search (rules, n-is c.args.sheet.now))

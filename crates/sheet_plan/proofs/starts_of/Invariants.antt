@@ -1,7 +1,6 @@
--- `starts_of` meets its contract.
+-- The loop's invariant: the parts before have their starts, and this one begins at `at`.
 -- Assumes nothing.
-use Prim.Native.Nat.{◌≤◌, ◌-◌}
-use mathlib.Core.Path.{◌≡◌}
+use Rattle.std.proofs.Common.{◌≡◌}
 use lib.ListN.{replicate}
 use Rattle.lists.specs.Loops.{filled}
 use Rattle.meaning.specs.Sheet.{sheet_of}
@@ -10,7 +9,7 @@ use Rattle.sheet_plan.proofs.starts_of.Given as goal
 
 abbrev pub invariant-loop-part : goal.invariant-loop-part
 invariant-loop-part l =
-    (l.part ≤ l.m) × ((l.r ≡ filled (start (sheet_of l.sheet)) l.part (replicate 10 0)) × (l.at ≡ start (sheet_of l.sheet) l.part))
-
-abbrev pub decreases-loop-part : goal.decreases-loop-part
-decreases-loop-part l = l.m - l.part
+    record {
+      starts-are : l.r ≡ filled (start (sheet_of l.sheet)) l.part (replicate 10 0);
+      at_is : l.at ≡ start (sheet_of l.sheet) l.part;
+    }

@@ -4,7 +4,7 @@ use mathlib.Core.Path.{ap, ◌∙◌}
 use Rattle.rows.specs.Ranks.{found_key}
 use Rattle.store.proofs.Plans.{unmarked}
 use Rattle.side_table.proofs.Parts.{side-marked, side-some, side-kept, side-rows}
-use Rattle.side_table.proofs.Tests.{asked-planned, sound-modelled, new-unkept, new-missing, new-at}
+use Rattle.side_table.proofs.Tests.{asked-planned, sound-modelled, new-unkept, new-is}
 use native.Mathlib.Omega.{arith}
 use Rattle.side_table.proofs.new_key.Goals as goal
 
@@ -17,22 +17,16 @@ pub bounds-r-0 : goal.bounds-r-0
 bounds-r-0 c =
     omega (arith, c.requires.r_len, c.requires.good_plan.good.wide _ c.requires.t_bound)
 
-pub find_key-f-requires : goal.find_key-f-requires
-find_key-f-requires c =
+pub find_key-requires : goal.find_key-requires
+find_key-requires c =
     let side = side-marked _ _ c.requires.good_plan _ c.requires.t_bound c.if-plan-t-eq0.false _ c.part_of-p.ensures in
     record {
       kept = side-kept side (sound-modelled (asked-planned c.requires.good_plan c.requires.t_bound c.requires.t));
       columns_nonzero = side-some side;
     }
 
-pub returns-in_default : goal.returns-in_default
-returns-in_default c =
-    let side = side-marked _ _ c.requires.good_plan _ c.requires.t_bound c.if-plan-t-eq0.false _ c.part_of-p.ensures in
-    let found = c.find_key-f.ensures ∙ ap (found_key _) (side-rows side _) in
-    new-at (asked-planned c.requires.good_plan c.requires.t_bound c.requires.t) c.args.r.now _ found _ c.in_default.is
-
 pub returns : goal.returns
 returns c =
     let side = side-marked _ _ c.requires.good_plan _ c.requires.t_bound c.if-plan-t-eq0.false _ c.part_of-p.ensures in
-    let found = c.find_key-f.ensures ∙ ap (found_key _) (side-rows side _) in
-    new-missing (asked-planned c.requires.good_plan c.requires.t_bound c.requires.t) c.args.r.now _ found c.in-None.is
+    let found = c.find_key.ensures ∙ ap (found_key _) (side-rows side _) in
+    new-is (asked-planned c.requires.good_plan c.requires.t_bound c.requires.t) c.args.r.now _ found _ c.is_none.ensures

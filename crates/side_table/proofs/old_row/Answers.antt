@@ -1,7 +1,7 @@
 -- `side_table::old_row` meets its contract: for an unkept table, an unqualified row and a qualified one.
 -- Assumes nothing.
 use Rattle.store.proofs.Plans.{marked, unmarked}
-use Rattle.side_table.proofs.Tests.{asked-planned, sound-modelled, old-unkept, old-unqualified, old-missing, old-at}
+use Rattle.side_table.proofs.Tests.{asked-planned, sound-modelled, old-unkept, old-unqualified, old-is}
 use Rattle.side_table.proofs.old_row.Goals as goal
 
 pub returns-then-plan-t-eq0 : goal.returns-then-plan-t-eq0
@@ -15,8 +15,8 @@ returns-then-not-qualified c =
     let asked = asked-planned c.requires.good_plan c.requires.t_bound c.requires.t in
     old-unqualified asked k _ _ _ c.requires.qualified_value c.if-not-qualified.true c.new_key.ensures
 
-pub find_side-f-requires : goal.find_side-f-requires
-find_side-f-requires c =
+pub find_side-requires : goal.find_side-requires
+find_side-requires c =
     record {
       good_plan = c.requires.good_plan;
       t_bound = c.requires.t_bound;
@@ -25,14 +25,8 @@ find_side-f-requires c =
       modelled = sound-modelled (asked-planned c.requires.good_plan c.requires.t_bound c.requires.t);
     }
 
-pub returns-in_default : goal.returns-in_default
-returns-in_default c =
-    let k = marked _ _ c.requires.good_plan _ c.requires.t_bound c.if-plan-t-eq0.false in
-    let asked = asked-planned c.requires.good_plan c.requires.t_bound c.requires.t in
-    old-at asked k _ _ c.requires.qualified_value c.if-not-qualified.false _ c.find_side-f.ensures _ c.in_default.is
-
 pub returns : goal.returns
 returns c =
     let k = marked _ _ c.requires.good_plan _ c.requires.t_bound c.if-plan-t-eq0.false in
     let asked = asked-planned c.requires.good_plan c.requires.t_bound c.requires.t in
-    old-missing asked k _ _ c.requires.qualified_value c.if-not-qualified.false _ c.find_side-f.ensures c.in-None.is
+    old-is asked k _ _ c.requires.qualified_value c.if-not-qualified.false _ c.find_side.ensures _ c.is_some.ensures

@@ -13,8 +13,8 @@ returns-then-plan-t-eq0 c =
     let no = unmarked _ _ c.requires.good_plan _ c.requires.t_bound c.if-plan-t-eq0.true in
     replace-unkept _ _ c.requires.t_bound no _ _ _
 
-pub find_side-f-requires : goal.find_side-f-requires
-find_side-f-requires c =
+pub find_side-requires : goal.find_side-requires
+find_side-requires c =
     record {
       good_plan = c.requires.good_plan;
       t_bound = c.requires.t_bound;
@@ -26,7 +26,7 @@ find_side-f-requires c =
 pub returns-in_default : goal.returns-in_default
 returns-in_default c =
     let k = marked _ _ c.requires.good_plan _ c.requires.t_bound c.if-plan-t-eq0.false in
-    absurd (replace-there _ _ _ _ _ c.requires.replaceable k _ c.find_side-f.ensures c.in_default.is)
+    absurd (replace-there _ _ _ _ _ c.requires.replaceable k _ c.find_side.ensures c.in_default.is)
 
 pub side_words-row-requires : goal.side_words-row-requires
 side_words-row-requires c =
@@ -50,13 +50,13 @@ replace_row-requires c =
     let side = side-marked _ _ c.requires.good_plan _ c.requires.t_bound c.if-plan-t-eq0.false _ c.part_of-p.ensures in
     record {
       kept = side-kept side c.requires.modelled;
-      at_bound = replace-below side c.requires.modelled c.requires.replaceable _ c.find_side-f.ensures _ c.in-Some.is;
+      at_bound = replace-below side c.requires.modelled c.requires.replaceable _ c.find_side.ensures _ c.in-Some.is;
       r_len = side-long side c.side_words-row.ensures;
-      t = replace-up side c.requires.modelled c.requires.replaceable _ c.find_side-f.ensures _ c.in-Some.is c.side_words-row.ensures;
+      t = replace-up side c.requires.modelled c.requires.replaceable _ c.find_side.ensures _ c.in-Some.is c.side_words-row.ensures;
     }
 
-pub returns : goal.returns
-returns c =
+pub returns-in-Some : goal.returns-in-Some
+returns-in-Some c =
     let side = side-marked _ _ c.requires.good_plan _ c.requires.t_bound c.if-plan-t-eq0.false _ c.part_of-p.ensures in
-    replace-kept side c.requires.modelled c.requires.replaceable _ c.find_side-f.ensures _ c.in-Some.is
+    replace-kept side c.requires.modelled c.requires.replaceable _ c.find_side.ensures _ c.in-Some.is
     c.side_words-row.ensures _ c.replace_row.ensures

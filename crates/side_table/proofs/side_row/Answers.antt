@@ -1,24 +1,22 @@
 -- `side_table::side_row` meets its contract. The invariant: the first j shown columns are written.
 -- Assumes nothing.
 use mathlib.Core.Path.{refl}
-use lib.ListN.{length-set}
 use Rattle.lists.specs.Loops.{filled}
 use Rattle.lists.proofs.Loops.{filled_more}
 use Rattle.side_table.proofs.Shown.{shown-place, shown-column, shown-value, shown-end}
-use borrow.Author.Rules.{rules}
 use native.Mathlib.Omega.{arith}
 use Rattle.side_table.proofs.side_row.Goals as goal
 
 pub loop-j-init : goal.loop-j-init
 unfolding filled
-loop-j-init c = (search rules, search rules, refl)
+loop-j-init c = refl
 
-pub overflow_mul-c : goal.overflow_mul-c
-overflow_mul-c c =
+pub overflow_mul-row : goal.overflow_mul-row
+overflow_mul-row c =
     omega (arith, shown-place c.requires.good_plan _ c.requires.t_bound _ _ c.requires.row_len c.loop-j-test.true)
 
-pub overflow_add-c : goal.overflow_add-c
-overflow_add-c c =
+pub overflow_add-row : goal.overflow_add-row
+overflow_add-row c =
     omega (arith, shown-place c.requires.good_plan _ c.requires.t_bound _ _ c.requires.row_len c.loop-j-test.true)
 
 pub offset_bounds-plan-t : goal.offset_bounds-plan-t
@@ -29,19 +27,18 @@ pub bounds-plan-t : goal.bounds-plan-t
 bounds-plan-t c =
     omega (arith, shown-place c.requires.good_plan _ c.requires.t_bound _ _ c.requires.row_len c.loop-j-test.true)
 
-pub offset_bounds-r-c : goal.offset_bounds-r-c
-offset_bounds-r-c c =
+pub offset_bounds-r-plan : goal.offset_bounds-r-plan
+offset_bounds-r-plan c =
     omega (arith, shown-column c.requires.good_plan _ c.requires.t_bound _ _ c.requires.row_len c.loop-j-test.true _ _ c.requires.r_len refl)
 
-pub bounds-r-c : goal.bounds-r-c
-bounds-r-c c =
+pub bounds-r-plan : goal.bounds-r-plan
+bounds-r-plan c =
     omega (arith, shown-column c.requires.good_plan _ c.requires.t_bound _ _ c.requires.row_len c.loop-j-test.true _ _ c.requires.r_len refl)
 
 pub loop-j-preserved : goal.loop-j-preserved
 loop-j-preserved c =
     let value = shown-value c.requires.good_plan _ c.requires.t_bound _ _ c.requires.row_len c.loop-j-test.true _ _ _ refl refl in
-    (omega arith, simp length-set c.loop-j.invariant.1, filled_more _ _ _ _ _ c.loop-j.invariant.2 value)
+    filled_more _ _ _ _ _ c.loop-j.invariant value
 
 pub returns : goal.returns
-returns c =
-    shown-end _ _ _ _ _ _ _ c.requires.row_len refl c.loop-j.invariant.0 c.loop-j-test.false c.loop-j.invariant.2
+returns c = shown-end _ _ _ _ _ _ c.requires.row_len c.loop-j.auto.j-end c.loop-j-test.false c.loop-j.invariant

@@ -1,17 +1,12 @@
--- `store::absent_zero` meets its contract. The invariant: the counts from n to t are 0.
+-- `store::absent_zero` meets its contract, by the words that the chain goes through.
 -- Assumes nothing.
-use Rattle.store.proofs.Tests.{zero-start, zero_more, zero-fails, zero-end}
-use native.Mathlib.Omega.{arith}
+use Rattle.std.proofs.Common.{rules, tests, ◌∙◌, ◌-◌, eqb, take, drop}
+use Rattle.std.proofs.lemmas.Iterator.{YieldsList-from_slice}
+use Rattle.std.proofs.lemmas.Iterator.Search.{all_from_yields_List}
+use Rattle.store.proofs.Tests.{absent-is}
 use Rattle.store.proofs.absent_zero.Goals as goal
 
-pub loop-t-init : goal.loop-t-init
-loop-t-init c = (omega arith, zero-start _ _)
-
-pub returns-then-store-t-ne0 : goal.returns-then-store-t-ne0
-returns-then-store-t-ne0 c = zero-fails _ _ _ c.loop-t.invariant.0 c.loop-t-test.true c.if-store-t-ne0.true
-
-pub loop-t-preserved : goal.loop-t-preserved
-loop-t-preserved c = (omega arith, zero_more _ _ _ c.loop-t.invariant.1 c.if-store-t-ne0.false)
-
 pub returns : goal.returns
-returns c = zero-end _ _ _ c.loop-t-test.false c.loop-t.invariant.1
+returns c =
+    all_from_yields_List (λ n. eqb n 0) _ _ _ c.all.ensures.ran (YieldsList-from_slice (take (8 - c.args.n) (drop c.args.n c.args.store.now)) cc) (λ x b q k. search (rules, tests))
+    ∙ absent-is _ _ c.requires.few c.requires.long

@@ -1,17 +1,18 @@
--- `store::find_key` meets its contract: what `rows` finds in the lent part.
+-- `store::find_key` meets its contract: what `rows` finds in the part's words.
 -- Assumes nothing.
-use Rattle.lists.specs.Parts.{part}
-use Rattle.store.specs.Parts.{words_in, rows_in}
+use Rattle.std.proofs.Common.{ap, ◌∙◌}
+use Rattle.rows.specs.Ranks.{found_key}
+use Rattle.store.proofs.Parts.{read-region, read-rows}
 use Rattle.store.proofs.find_key.Goals as goal
 
 pub find_key-requires : goal.find_key-requires
-unfolding words_in part
-find_key-requires c = record {
-  w_nonzero = c.requires.columns_nonzero;
-  w_in_bounds = c.requires.kept.region.fits;
-  t = c.requires.kept.region.up;
-}
+find_key-requires c =
+    let region = read-region c.requires.kept c.count.ensures c.words.ensures in
+    record {
+      w_nonzero = c.requires.columns_nonzero;
+      w_in_bounds = region.fits;
+      t = region.up;
+    }
 
 pub returns : goal.returns
-unfolding rows_in words_in part
-returns c = c.find_key.ensures
+returns c = c.find_key.ensures ∙ ap (found_key _) (read-rows c.requires.kept c.count.ensures c.words.ensures)

@@ -1,19 +1,17 @@
--- `store::mark_row` meets its contract: what `rows` marks of the lent part.
+-- `store::mark_row` meets its contract: what `rows` marks of the part's rows.
 -- Assumes nothing.
-use Rattle.lists.specs.Parts.{part}
-use Rattle.store.specs.Parts.{words_in, rows_in}
+use Rattle.store.proofs.Parts.{read-region, read-rows}
 use Rattle.store.proofs.mark_row.Goals as goal
 
 pub mark-requires : goal.mark-requires
-unfolding rows_in words_in part
 mark-requires c =
+    let region = read-region c.requires.kept c.count.ensures c.words.ensures in
     record {
-      w_in_bounds = c.requires.kept.region.fits;
+      w_in_bounds = region.fits;
       r_len = c.requires.r_len;
-      t = c.requires.kept.region.up;
-      run = c.requires.run;
+      t = region.up;
+      run = rw c.count.ensures c.requires.run;
     }
 
 pub returns : goal.returns
-unfolding rows_in words_in part
-returns c = c.mark.ensures.marking
+returns c = rw (read-rows c.requires.kept c.count.ensures c.words.ensures) at c.mark.ensures.marking

@@ -1,11 +1,12 @@
 -- `store::part_of` meets its contract, for a table and for the list.
 -- Assumes nothing.
-use mathlib.Core.Path.{◌∙◌}
 use Rattle.store.proofs.Plans.{table_at, list_at}
+use Rattle.store.proofs.part_of.Goals.{then-number-plan, else-number-plan}
 use Rattle.store.proofs.part_of.Goals as goal
 
-pub returns-then-number-plan : goal.returns-then-number-plan
-returns-then-number-plan c = c.part_at.ensures ∙ table_at _ _ c.if-number-plan.true
-
 pub returns : goal.returns
-returns c = c.part_at-2.ensures ∙ list_at _ _ c.if-number-plan.false
+returns c =
+    elim c.if-number-plan.branch [
+      | then-number-plan w ↦ rw w.result-is (table_at _ _ w.if-number-plan.true)
+      | else-number-plan w ↦ rw w.result-is (list_at _ _ w.if-number-plan.false)
+    ]

@@ -1,21 +1,18 @@
 -- `store::replace_row` meets its contract: the lent part comes back with r over a row.
 -- Assumes nothing.
-use Rattle.store.specs.Parts.{words_in, rows_in}
-use Rattle.lists.specs.Parts.{part}
-use Rattle.store.proofs.Parts.{wrote-as-many}
+use Rattle.std.proofs.Common.{set}
+use Rattle.store.proofs.Parts.{read-region, read-rows, lent-words, wrote-over}
 use Rattle.store.proofs.replace_row.Goals as goal
 
 pub replace-requires : goal.replace-requires
-unfolding rows_in words_in part
 replace-requires c =
+    let words = lent-words _ _ c.end.ensures in
     record {
-      region = c.requires.kept.region;
-      at_lt_count = c.requires.at_bound;
+      region = read-region c.requires.kept c.count-count.ensures words;
+      at_lt_count = rw c.count-count.ensures c.requires.at_bound;
       r_len = c.requires.r_len;
-      t = c.requires.t;
+      t = rw (read-rows c.requires.kept c.count-count.ensures words) c.requires.t;
     }
 
 pub returns : goal.returns
-unfolding rows_in words_in part
-returns c =
-    wrote-as-many _ _ c.requires.kept.within _ _ c.replace.ensures c.replace.auto.s
+returns c = wrote-over c.requires.kept c.count-count.ensures c.end.ensures (λ rows. set rows c.args.at c.args.r.now) c.replace.auto.s c.replace.ensures

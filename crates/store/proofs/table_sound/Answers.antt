@@ -1,16 +1,25 @@
 -- `store::table_sound` meets its contract, for an unkept table and for a kept one.
 -- Assumes nothing.
-use borrow.Author.Tests.{eq-eqb, ne_eqb}
+use Rattle.std.proofs.Common.{ap, eqb, arith}
+use Rattle.store.proofs.Plans.{few, within-store, has-columns}
+use Rattle.store.proofs.Whole.{unkept-is, kept-is}
 use Rattle.store.proofs.table_sound.Goals as goal
 
-pub returns-then-kept-eq0 : goal.returns-then-kept-eq0
-returns-then-kept-eq0 c = rw (eq-eqb _ _ c.if-kept-eq0.true)
+pub part_of-p-requires : goal.part_of-p-requires
+part_of-p-requires c = record { number_le_tables = omega arith; tables_le_most_tables = few _ c.requires.of_sheet }
+
+pub count-requires : goal.count-requires
+count-requires c = within-store _ c.requires.of_sheet _ _ _ (omega arith) c.part_of-p.ensures c.requires.store_len
+
+pub returns-then-plan-t-eq0 : goal.returns-then-plan-t-eq0
+returns-then-plan-t-eq0 c = unkept-is _ _ c.requires.t_lt_tables c.part_of-p.ensures c.if-plan-t-eq0.true (ap (λ n. eqb n 0) c.count.ensures)
 
 pub part_sound-requires : goal.part_sound-requires
-part_sound-requires c = record {
-  within = c.requires.within;
-  columns_nonzero = λ keyed. c.requires.columns_nonzero c.if-kept-eq0.false;
-}
+part_sound-requires c =
+    record {
+      within = within-store _ c.requires.of_sheet _ _ _ (omega arith) c.part_of-p.ensures c.requires.store_len;
+      columns_nonzero = λ keyed. has-columns _ c.requires.of_sheet _ _ c.requires.t_lt_tables c.if-plan-t-eq0.false c.part_of-p.ensures;
+    }
 
 pub returns : goal.returns
-returns c = rw (ne_eqb _ _ c.if-kept-eq0.false) c.part_sound.ensures
+returns c = kept-is _ _ c.requires.t_lt_tables c.part_of-p.ensures c.if-plan-t-eq0.false c.part_sound.ensures

@@ -1,15 +1,12 @@
 -- `has_column` meets its contract.
 -- Assumes nothing.
-use Rattle.lists.proofs.Loops.{no}
-use Rattle.sheet.proofs.Facts.{column-facts, column-make}
-use native.Mathlib.Omega.{arith}
+use Rattle.std.proofs.Common.{arith}
+use Rattle.std.proofs.lemmas.Bool.Decides.{nat_tests}
+use Rattle.sheet.proofs.Words.{n-is, width_is}
 use Rattle.sheet.proofs.rules.has_column.Goals as goal
 
-pub returns-then-tables-t : goal.returns-then-tables-t
-returns-then-tables-t c = no _ (λ h. let f = column-facts _ _ _ h in omega arith)
+pub returns-then-t-tables : goal.returns-then-t-tables
+returns-then-t-tables c = rw (n-is c.args.sheet.now, width_is c.args.sheet.now c.args.t (omega arith)) (grind (arith, nat_tests))
 
-pub returns-then-width_no-column : goal.returns-then-width_no-column
-returns-then-width_no-column c = no _ (λ h. let f = column-facts _ _ _ h in omega arith)
-
-pub returns : goal.returns
-returns c = column-make _ _ _ (omega arith)
+pub returns-else-t-tables : goal.returns-else-t-tables
+returns-else-t-tables c = rw (n-is c.args.sheet.now) (grind (arith, nat_tests))

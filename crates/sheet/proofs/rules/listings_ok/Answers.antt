@@ -1,20 +1,8 @@
 -- `listings_ok` meets its contract.
 -- Assumes nothing.
-use mathlib.Core.Path.{refl, sym, ◌∙◌}
-use Rattle.lists.proofs.Loops.{every_more, every-fails, every-end}
-use Rattle.lists.specs.Loops.{every}
-use native.Mathlib.Omega.{arith}
+use Rattle.std.proofs.Common.{rules, tests}
+use Rattle.lists.proofs.Chains.{every-from_all}
 use Rattle.sheet.proofs.rules.listings_ok.Goals as goal
 
-pub loop-k-init : goal.loop-k-init
-unfolding every
-loop-k-init c = (omega arith, refl)
-
-pub loop-k-preserved : goal.loop-k-preserved
-loop-k-preserved c = (omega arith, every_more _ _ c.loop-k.invariant.1 (sym c.listing_ok.ensures ∙ c.if-listing_ok.true))
-
-pub returns-else-listing_ok : goal.returns-else-listing_ok
-returns-else-listing_ok c = sym (every-fails _ _ _ (omega arith) (sym c.listing_ok.ensures ∙ c.if-listing_ok.false))
-
 pub returns : goal.returns
-returns c = sym (every-end _ _ _ (omega arith) (omega arith) c.loop-k.invariant.1)
+returns c = every-from_all _ _ _ _ c.listed.ensures c.all.ensures.ran (λ x b q k. search (rules, tests))

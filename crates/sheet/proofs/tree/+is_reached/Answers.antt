@@ -12,10 +12,6 @@ returns-then-edges-k t c = reached-root _ _ _ c.edge_into-k.ensures _ (omega ari
 pub returns-then-left-eq0 : goal.returns-then-left-eq0
 returns-then-left-eq0 t c = reached-stop _ _ _ c.edge_into-k.ensures _ c.if-left-eq0.true (omega arith)
 
-pub is_reached-requires : goal.is_reached-requires
-is_reached-requires t c = let there = (c.requires.0.rules.edges c.edge_into-k.result (omega arith)).there.table in
-    (omega arith, (c.requires.0, omega (arith, c.edge_no-edge.ensures.child-is)))
-
 pub returns : goal.returns
 returns t c = reached-on _ _ _ c.edge_into-k.ensures _ _ c.if-left-eq0.false (c.requires.0.one-into _ c.requires.1) (omega arith)
     (c.is_reached.ensures ∙ ap (reached_no _ _) c.edge_no-edge.ensures.child-is)

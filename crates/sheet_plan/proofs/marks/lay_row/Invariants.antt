@@ -1,15 +1,15 @@
--- `lay_row` meets its contract. The loop's invariant: `many` numbers before k are marked, and the numbers before k are laid.
+-- The loop's invariant: `many` numbers before c are marked, and the numbers before c are laid.
 -- Assumes nothing.
-use Prim.Native.Nat.{◌+◌, ◌*◌, ◌≤◌, ◌-◌}
-use mathlib.Core.Path.{◌≡◌}
+use Rattle.std.proofs.Common.{◌≡◌, ◌+◌, ◌*◌, ◌≤◌}
 use Rattle.sheet.specs.Counted.{counted}
 use Rattle.sheet_plan.specs.Marks.{has_mark, lists_to, places_to}
 use Rattle.sheet_plan.proofs.marks.lay_row.Given as goal
 
-abbrev pub invariant-loop-k : goal.invariant-loop-k
-invariant-loop-k l =
-    (l.k ≤ 8) × ((l.many ≤ l.k) × ((l.many ≡ counted (has_mark l.marks l.t) l.k)
-    × ((l.lists ≡ lists_to l.marks (8 * l.t + l.k)) × (l.places ≡ places_to l.marks (8 * l.t + l.k)))))
-
-abbrev pub decreases-loop-k : goal.decreases-loop-k
-decreases-loop-k l = 8 - l.k
+abbrev pub invariant-loop-c : goal.invariant-loop-c
+invariant-loop-c l =
+    record {
+      few : l.many ≤ l.c;
+      many-is : l.many ≡ counted (has_mark l.marks l.t) l.c;
+      lists-are : l.lists ≡ lists_to l.marks (8 * l.t + l.c);
+      places-are : l.places ≡ places_to l.marks (8 * l.t + l.c);
+    }

@@ -1,19 +1,17 @@
--- `Reader::take_chunk` meets its contract: the reader is the state after the bytes passed so far.
+-- `Reader::take_chunk` meets its contract.
 -- Assumes nothing.
+use Rattle.std.proofs.Common.{refl, ap, ◌∙◌}
 use lib.Seq.{take_all}
-use mathlib.Core.Path.{refl, ap, ◌∙◌}
 use Rattle.text.specs.Readers.{after_bytes}
 use Rattle.text.proofs.Bytes.{bytes-more}
-use borrow.Author.Rules.{rules}
-use native.Mathlib.Omega.{arith}
 use Rattle.text.proofs.reading.Reader.take_chunk.Goals as goal
 
-pub loop-i-init : goal.loop-i-init
+pub loop-byte-init : goal.loop-byte-init
 unfolding after_bytes
-loop-i-init c = (omega arith, refl)
+loop-byte-init c = refl
 
-pub loop-i-preserved : goal.loop-i-preserved
-loop-i-preserved c = (search rules, c.take_byte-self.ensures ∙ bytes-more _ _ _ _ c.loop-i-test.true c.loop-i.invariant.1)
+pub loop-byte-preserved : goal.loop-byte-preserved
+loop-byte-preserved c = c.take_byte-self.ensures ∙ bytes-more _ _ _ _ c.loop-byte-test.true c.loop-byte.invariant
 
 pub returns : goal.returns
-returns c = c.loop-i.invariant.1 ∙ ap (after_bytes _) (take_all _ _ c.loop-i-test.false)
+returns c = c.loop-byte.invariant ∙ ap (after_bytes _) (take_all _ _ c.loop-byte-test.false)

@@ -1,7 +1,0 @@
--- `condition_no` meets its contract.
--- Assumes nothing.
-use mathlib.Core.Path.{refl}
-use Rattle.sheet.proofs.reading.condition_no.Goals as goal
-
-pub returns : goal.returns
-returns c = rw c.conditions_at.ensures (record { table_is = refl; column-is = refl; lowest-is = refl; highest-is = refl })
