@@ -9,51 +9,6 @@ ghost use Rattle.list_part.specs.Gives.{row_shows, row_with, row_given, given, t
 use sheet::LISTED;
 use std::cmp::Ordering;
 
-// Whether row i of s shows r's values in table t's columns.
-pub fn shows_row(sheet: &[u64], s: &[u64], i: usize, t: usize, r: &[u64]) -> bool
-    requires rules { Rules sheet.now }
-    requires fits { Fits sheet.now t r.now }
-    requires sheet_in_bounds { i * listed_count sheet.now + listed_count sheet.now ≤ length s.now }
-    ensures { result ≡ row_shows sheet.now t r.now i s.now }
-{
-    let p = sheet::listed(sheet);
-    let base = i * p;
-    let mut k = 0;
-    while k < p {
-        let j = k;
-        k += 1;
-        let l = sheet::listing_no(sheet, j);
-        if l.table == t {
-            let c = l.column;
-            if s[base + j] != r[c] {
-                return false;
-            }
-        }
-    }
-    true
-}
-
-// Row i of s gets r's values in table t's columns.
-pub fn give_row(sheet: &[u64], s: &mut [u64], i: usize, t: usize, r: &[u64])
-    requires rules { Rules sheet.now }
-    requires fits { Fits sheet.now t r.now }
-    requires sheet_in_bounds { i * listed_count sheet.now + listed_count sheet.now ≤ length s.old }
-    ensures { s.new ≡ row_given sheet.now t r.now i s.old }
-{
-    let p = sheet::listed(sheet);
-    let base = i * p;
-    let mut k = 0;
-    while k < p {
-        let j = k;
-        k += 1;
-        let l = sheet::listing_no(sheet, j);
-        if l.table == t {
-            let c = l.column;
-            s[base + j] = r[c];
-        }
-    }
-}
-
 // Word k of row i of s with r's values in table t's columns.
 fn given_word(sheet: &[u64], s: &[u64], i: usize, k: usize, t: usize, r: &[u64]) -> u64
     requires rules { Rules sheet.now }
@@ -64,10 +19,20 @@ fn given_word(sheet: &[u64], s: &[u64], i: usize, k: usize, t: usize, r: &[u64])
 {
     let l = sheet::listing_no(sheet, k);
     if l.table == t {
-        let c = l.column;
-        return r[c];
+        return r[l.column];
     }
     s[i * sheet::listed(sheet) + k]
+}
+
+// Whether row i of s shows r's values in table t's columns.
+pub fn shows_row(sheet: &[u64], s: &[u64], i: usize, t: usize, r: &[u64]) -> bool
+    requires rules { Rules sheet.now }
+    requires fits { Fits sheet.now t r.now }
+    requires sheet_in_bounds { i * listed_count sheet.now + listed_count sheet.now ≤ length s.now }
+    ensures { result ≡ row_shows sheet.now t r.now i s.now }
+{
+    let p = sheet::listed(sheet);
+    (0..p).all(|k| s[i * p + k] == given_word(sheet, s, i, k, t, r))
 }
 
 // Row i of s with r's values in table t's columns, and zeros behind it.
@@ -77,14 +42,23 @@ pub fn given_row(sheet: &[u64], s: &[u64], i: usize, t: usize, r: &[u64]) -> [u6
     requires sheet_in_bounds { i * listed_count sheet.now + listed_count sheet.now ≤ length s.now }
     ensures { take (listed_count sheet.now) result ≡ row_with sheet.now t r.now i s.now }
 {
-    let p = sheet::listed(sheet);
     let mut row = [0u64; LISTED];
-    let mut k = 0;
-    while k < p {
+    for k in 0..sheet::listed(sheet) {
         row[k] = given_word(sheet, s, i, k, t, r);
-        k += 1;
     }
     row
+}
+
+// Row i of s gets r's values in table t's columns.
+pub fn give_row(sheet: &[u64], s: &mut [u64], i: usize, t: usize, r: &[u64])
+    requires rules { Rules sheet.now }
+    requires fits { Fits sheet.now t r.now }
+    requires sheet_in_bounds { i * listed_count sheet.now + listed_count sheet.now ≤ length s.old }
+    ensures { s.new ≡ row_given sheet.now t r.now i s.old }
+{
+    let p = sheet::listed(sheet);
+    let row = given_row(sheet, s, i, t, r);
+    rows::write_over(s, i * p, &row[..p]);
 }
 
 // The rows of the first count rows at these numbers get r's values in table t's columns.
@@ -95,11 +69,8 @@ pub fn give_marked(sheet: &[u64], s: &mut [u64], count: usize, numbers: &[u16], 
     requires numbers { Numbers count numbers.now }
     ensures { s.new ≡ given sheet.now t r.now numbers.now count s.old }
 {
-    let mut j = 0;
-    while j < numbers.len() {
-        let i = numbers[j] as usize;
-        give_row(sheet, s, i, t, r);
-        j += 1;
+    for &i in numbers {
+        give_row(sheet, s, i as usize, t, r);
     }
 }
 
@@ -110,20 +81,12 @@ pub fn turn(sheet: &[u64], t: usize, old: &[u64], new: &[u64]) -> Ordering
     requires fits_2 { Fits sheet.now t new.now }
     ensures { result ≡ turn_of (sheet_of sheet.now).listed t old.now new.now }
 {
-    let p = sheet::listed(sheet);
-    let mut k = 0;
-    while k < p {
+    for k in 0..sheet::listed(sheet) {
         let l = sheet::listing_no(sheet, k);
-        k += 1;
         if l.table == t {
-            let c = l.column;
-            let a = new[c];
-            let b = old[c];
-            if a < b {
-                return Ordering::Less;
-            }
-            if b < a {
-                return Ordering::Greater;
+            let order = new[l.column].cmp(&old[l.column]);
+            if order.is_ne() {
+                return order;
             }
         }
     }

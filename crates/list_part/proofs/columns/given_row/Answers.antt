@@ -1,13 +1,12 @@
 -- `given_row` meets its contract. The loop's invariant: the words before k are given.
 -- Assumes nothing.
-use mathlib.Core.Path.{refl}
+use Rattle.std.proofs.Common.{refl, arith}
 use lib.ListN.{length-set}
 use Rattle.list_part.proofs.Given.{word_more, word_end}
-use native.Mathlib.Omega.{arith}
 use Rattle.list_part.proofs.columns.given_row.Goals as goal
 
 pub loop-k-init : goal.loop-k-init
-loop-k-init c = (omega arith, refl, refl)
+loop-k-init c = (refl, refl)
 
 pub given_word-requires : goal.given_word-requires
 given_word-requires c =
@@ -15,18 +14,17 @@ given_word-requires c =
       rules = c.requires.rules;
       fits = c.requires.fits;
       sheet_in_bounds = c.requires.sheet_in_bounds;
-      k_bound = rw (← c.listed-p.ensures) c.loop-k-test.true;
+      k_bound = rw (← c.listed-k-end.ensures) c.loop-k-test.true;
     }
 
 pub loop-k-preserved : goal.loop-k-preserved
 loop-k-preserved c = (
-  omega (arith, c.loop-k-test.true),
-  simp length-set c.loop-k.invariant.1,
+  simp length-set c.loop-k.invariant.0,
   rw c.given_word.ensures
       (word_more _ _ _ _ _ c.requires.sheet_in_bounds _ c.loop-k.k (omega (arith, c.requires.rules.counts.listed-few))
-      (rw (← c.listed-p.ensures) c.loop-k-test.true) c.loop-k.invariant.2),
+      (rw (← c.listed-k-end.ensures) c.loop-k-test.true) c.loop-k.invariant.1),
 )
 
 pub returns : goal.returns
 returns c =
-    word_end _ _ _ _ _ c.requires.sheet_in_bounds _ _ _ c.listed-p.ensures c.loop-k.invariant.0 c.loop-k-test.false c.loop-k.invariant.2
+    word_end _ _ _ _ _ c.requires.sheet_in_bounds _ _ _ c.listed-k-end.ensures c.loop-k.auto.k-end c.loop-k-test.false c.loop-k.invariant.1

@@ -5,8 +5,8 @@ use Rattle.list_part.proofs.Words.{column-in}
 use Rattle.list_part.proofs.Given.{word-own, word-other}
 use Rattle.list_part.proofs.columns.given_word.Goals as goal
 
-pub bounds-r-c : goal.bounds-r-c
-bounds-r-c c =
+pub bounds-r-l : goal.bounds-r-l
+bounds-r-l c =
     column-in _ _ _ _ _ _ c.requires.rules c.requires.fits refl c.requires.k_bound c.listing_no-l.ensures c.if-l-t.true
 
 pub returns-then-l-t : goal.returns-then-l-t

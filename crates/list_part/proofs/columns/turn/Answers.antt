@@ -1,47 +1,37 @@
 -- `turn` meets its contract. The loop's invariant: the listed columns before k do not say which way.
 -- Assumes nothing.
-use mathlib.Core.Path.{refl}
+use Rattle.std.proofs.Common.{refl, sym, ◌∙◌, ◌<◌}
+use Rattle.meaning.specs.Sheet.{listed_count}
 use Rattle.list_part.proofs.Words.{column-in}
-use Rattle.list_part.proofs.Given.{turn-other, turn-less, turn-greater, turn-same, turn_end}
-use borrow.Author.Rules.{rules}
-use native.Mathlib.Omega.{arith}
+use Rattle.list_part.proofs.Given.{turn-other, turn-way, turn-same, turn_end}
+use Rattle.list_part.proofs.columns.turn.Goals.{then-l-t+else-is_ne, else-l-t}
 use Rattle.list_part.proofs.columns.turn.Goals as goal
 
 pub loop-k-init : goal.loop-k-init
-loop-k-init c = (search rules, refl)
+loop-k-init c = refl
 
-pub bounds-new-c : goal.bounds-new-c
-bounds-new-c c =
-    column-in _ _ _ _ _ _ c.requires.rules c.requires.fits_2 c.listed-p.ensures c.loop-k-test.true c.listing_no-l.ensures c.if-l-t.true
+pub bounds-new-l : goal.bounds-new-l
+bounds-new-l c =
+    column-in _ _ _ _ _ _ c.requires.rules c.requires.fits_2 c.listed-k-end.ensures c.loop-k-test.true c.listing_no-l.ensures c.if-l-t.true
 
-pub bounds-old-c : goal.bounds-old-c
-bounds-old-c c =
-    column-in _ _ _ _ _ _ c.requires.rules c.requires.fits c.listed-p.ensures c.loop-k-test.true c.listing_no-l.ensures c.if-l-t.true
+pub bounds-old-l : goal.bounds-old-l
+bounds-old-l c =
+    column-in _ _ _ _ _ _ c.requires.rules c.requires.fits c.listed-k-end.ensures c.loop-k-test.true c.listing_no-l.ensures c.if-l-t.true
 
-pub returns-then-a-b : goal.returns-then-a-b
-returns-then-a-b c =
-    turn-less _ _ _ _ _ (rw (← c.listed-p.ensures) c.loop-k-test.true) _ c.listing_no-l.ensures
-    c.loop-k.invariant.1 c.if-l-t.true c.if-a-b.true
-
-pub returns-then-b-a : goal.returns-then-b-a
-returns-then-b-a c =
-    turn-greater _ _ _ _ _ (rw (← c.listed-p.ensures) c.loop-k-test.true) _ c.listing_no-l.ensures
-    c.loop-k.invariant.1 c.if-l-t.true c.if-b-a.true
-
-pub loop-k-preserved-else-b-a : goal.loop-k-preserved-else-b-a
-loop-k-preserved-else-b-a c = (
-  omega (arith, c.loop-k-test.true),
-  turn-same _ _ _ _ _ (rw (← c.listed-p.ensures) c.loop-k-test.true) _ c.listing_no-l.ensures
-      c.loop-k.invariant.1 c.if-l-t.true c.if-a-b.false c.if-b-a.false,
-)
+pub returns-then-is_ne : goal.returns-then-is_ne
+returns-then-is_ne c =
+    turn-way _ _ _ _ _ (rw (← c.listed-k-end.ensures) c.loop-k-test.true) _ c.listing_no-l.ensures c.loop-k.invariant
+    c.if-l-t.true _ c.cmp-order.ensures (sym c.is_ne.ensures ∙ c.if-is_ne.true)
 
 pub loop-k-preserved : goal.loop-k-preserved
-loop-k-preserved c = (
-  omega (arith, c.loop-k-test.true),
-  turn-other _ _ _ _ _ (rw (← c.listed-p.ensures) c.loop-k-test.true) _ c.listing_no-l.ensures c.loop-k.invariant.1
-      c.if-l-t.false,
-)
+loop-k-preserved c =
+    let here : c.loop-k.k < listed_count c.args.sheet.now = rw (← c.listed-k-end.ensures) c.loop-k-test.true in
+    elim c.if-l-t.branch [
+      | then-l-t+else-is_ne w ↦ turn-same _ _ _ _ _ here _ c.listing_no-l.ensures c.loop-k.invariant
+          w.if-l-t.true _ w.cmp-order.ensures (sym w.is_ne.ensures ∙ w.if-is_ne.false)
+      | else-l-t w ↦ turn-other _ _ _ _ _ here _ c.listing_no-l.ensures c.loop-k.invariant w.if-l-t.false
+    ]
 
 pub returns : goal.returns
 returns c =
-    turn_end _ _ _ _ c.loop-k.k (rw (← c.listed-p.ensures) c.loop-k-test.false) c.loop-k.invariant.1
+    turn_end _ _ _ _ c.loop-k.k (rw (← c.listed-k-end.ensures) c.loop-k-test.false) c.loop-k.invariant

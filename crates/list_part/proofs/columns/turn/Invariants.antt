@@ -1,6 +1,5 @@
 -- `turn` meets its contract. The loop's invariant: the listed columns before k do not say which way.
 -- Assumes nothing.
-use Prim.Native.Nat.{◌≤◌, ◌-◌}
 use mathlib.Core.Path.{◌≡◌}
 use lib.ListN.{drop}
 use Rattle.meaning.specs.Sheet.{sheet_of}
@@ -8,7 +7,4 @@ use Rattle.list_part.specs.Gives.{turn_of}
 use Rattle.list_part.proofs.columns.turn.Given as goal
 
 abbrev pub invariant-loop-k : goal.invariant-loop-k
-invariant-loop-k l = (l.k ≤ l.p) × (turn_of (sheet_of l.sheet).listed l.t l.old l.new ≡ turn_of (drop l.k (sheet_of l.sheet).listed) l.t l.old l.new)
-
-abbrev pub decreases-loop-k : goal.decreases-loop-k
-decreases-loop-k l = l.p - l.k
+invariant-loop-k l = turn_of (sheet_of l.sheet).listed l.t l.old l.new ≡ turn_of (drop l.k (sheet_of l.sheet).listed) l.t l.old l.new
