@@ -30,9 +30,10 @@ pub put-good : (old new : Words) (a : PlanAnswer) (end : ℕ) → length old ≡
     → new ≡ plan_words (Ok a)
 put-good old new a end l w e = wrote-all old new (plan_words (Ok a)) end (e ∙ sym l) w
 
-pub put-refused : (r : Refusal) (n k : ℕ) → n ≡ plan_length → k ≡ refusal_number r → set (replicate n 0) 0 k ≡ plan_words (Err r)
+pub put-refused : (r : Refusal) (zeros : Words) (n k : ℕ) → zeros ≡ replicate n 0 → n ≡ plan_length → k ≡ refusal_number r
+    → set zeros 0 k ≡ plan_words (Err r)
 unfolding plan_words
-put-refused r n k l e = rw (l, e)
+put-refused r zeros n k z l e = rw (z, l, e)
 
 first-word : (a : Result PlanAnswer Refusal) → get_or (plan_words a) 0 0 ≡ number_of a
 unfolding plan_words
