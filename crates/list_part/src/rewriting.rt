@@ -3,13 +3,11 @@ ghost use Rattle.std.specs.Prelude.{◌≡◌, ℕ, ◌<◌, ◌≤◌, length};
 ghost use Rattle.rows.specs.Rows.{sorted};
 ghost use Rattle.rows.specs.Marks.{Numbers};
 ghost use Rattle.meaning.specs.Limits.{most_listed};
-ghost use Rattle.meaning.specs.Sheet.{listed_count};
-ghost use Rattle.sheet.specs.Rules.{Rules};
 ghost use Rattle.store.specs.Parts.{count_in, Within, Kept, Wrote};
-ghost use Rattle.list_part.specs.Gives.{Fits};
+ghost use Rattle.list_part.specs.Fitting.{FitValues, width_of};
 ghost use Rattle.list_part.specs.Loose.{row_put, rows_cleared, rows_given, Loose, loose_rows, Standing};
 
-use crate::columns::give_marked;
+use crate::columns::Values;
 use store::Part;
 
 // r becomes row k of the part; its count stays.
@@ -31,17 +29,16 @@ pub fn clear_rows(store: &mut [u64], p: Part, first: usize)
     store[p.start + first * p.columns..p.end()].fill(0);
 }
 
-// The part's rows at these numbers get r's values in table t's columns, where they stand.
-pub fn give_rows(sheet: &[u64], store: &mut [u64], p: Part, numbers: &[u16], t: usize, r: &[u64])
-    requires rules { Rules sheet.now }
-    requires fits { Fits sheet.now t r.now }
+// The part's rows at these numbers get these values, where they stand.
+pub fn give_rows(values: Values, store: &mut [u64], p: Part, numbers: &[u16])
+    requires fit { FitValues values }
     requires kept { Kept p store.old }
-    requires columns_value { p.columns ≡ listed_count sheet.now }
+    requires columns_value { p.columns ≡ width_of values }
     requires numbers { Numbers (count_in p store.old) numbers.now }
-    ensures { store.new ≡ rows_given sheet.now t r.now numbers.now p store.old }
+    ensures { store.new ≡ rows_given values.entry.sheet.now values.entry.table values.entry.row.now numbers.now p store.old }
 {
     let count = p.count(store);
-    give_marked(sheet, &mut store[p.start..p.end()], count, numbers, t, r);
+    values.give_marked(&mut store[p.start..p.end()], count, numbers);
 }
 
 // The first count rows of the part, of which the first `stand` rise, are put in order and are its rows from then on.

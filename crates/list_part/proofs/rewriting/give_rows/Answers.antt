@@ -8,9 +8,8 @@ pub give_marked-requires : goal.give_marked-requires
 give_marked-requires c =
     let region = read-region c.requires.kept c.count-count.ensures (lent-words _ _ c.end.ensures) in
     record {
-      rules = c.requires.rules;
-      fits = c.requires.fits;
-      sheet_in_bounds = rw (← c.requires.columns_value) region.fits;
+      fit = c.requires.fit;
+      s_in_bounds = rw (← c.requires.columns_value) region.fits;
       numbers = rw c.count-count.ensures c.requires.numbers;
     }
 
