@@ -1,12 +1,14 @@
 -- The exported plan call: its words, written over as many, are the answer.
 -- Assumes nothing.
 use Prim.Native.Nat.{ℕ}
-use mathlib.Core.Path.{◌≡◌, ap, ◌∙◌}
-use mathlib.Core.List.{◌++◌, append-nil}
+use mathlib.Core.Path.{◌≡◌, sym, ap, ◌∙◌}
+use mathlib.Core.List.{List, ◌++◌, append-nil}
 use native.Mathlib.Nat.{zero-add}
 use native.Mathlib.Omega.{arith}
 use lib.ListN.{length}
-use lib.Seq.{sets-eq, drop-length}
+use lib.Seq.{sets-eq, drop-length, ext_get_or}
+use denote.Param.Members.{Mut, Called}
+use Rattle.std.specs.Array.{IsMapOf}
 use Rattle.lists.specs.Lists.{Words}
 use Rattle.meaning.specs.Plan.{plan}
 use Rattle.text.specs.Writing.{PutAt}
@@ -25,3 +27,9 @@ pub planned-is : (sheet old new : Words) (a : PlanAnswer) (end : ℕ) → a ≡ 
 unfolding answer_of
 planned-is sheet old new a end e l w =
     record { number_is = ap (λ (b : PlanAnswer). b.number) e; words_are = wrote-all old new (plan_words a) end (omega (arith, w.1)) w.0 ∙ ap plan_words e }
+
+-- `map` with a closure that gives the number itself
+pub mapped-same : {F : Type 0} (g : Mut F (ℕ × Unit {0}) ℕ) (f : F) (xs ys : List ℕ) (n : ℕ) → IsMapOf g f xs ys n → length xs ≡ n
+    → ((x r : ℕ) (p q : F) → Called g p (x, tt) r q → r ≡ x) → ys ≡ xs
+mapped-same g f xs ys n made l says =
+    ext_get_or 0 ys xs (made.long ∙ sym l) (λ i h. let m = made.at i 0 0 (omega (arith, made.long)) in says _ _ m.0 m.1 m.2)
