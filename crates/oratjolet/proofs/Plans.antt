@@ -2,16 +2,18 @@
 -- Assumes nothing.
 use Prim.Native.Nat.{ℕ}
 use mathlib.Core.Path.{◌≡◌, refl, sym, ap, ◌∙◌}
-use mathlib.Core.List.{◌++◌, append-nil}
+use mathlib.Core.List.{List, ◌++◌, append-nil}
 use native.Mathlib.Nat.{zero-add}
 use native.Mathlib.Omega.{arith}
 use lib.ListN.{length, get_or, set, replicate}
+use lib.Seq.{sets-eq, drop-length, ext_get_or}
+use denote.Param.Members.{Mut, Called}
+use Rattle.std.specs.Array.{IsMapOf}
 use Rattle.std.specs.Prelude.{Result, Ok, Err}
 use Rattle.laws.proofs.Numbers.{plan-number}
 use Rattle.sheet.specs.declared.refusal.Refusal.{Refusal}
 use Rattle.sheet.specs.Refusals.{refusal_number, number_of}
 use Rattle.plan_answer.proofs.Laid.{planned-number}
-use lib.Seq.{sets-eq, drop-length}
 use Rattle.lists.specs.Lists.{Words}
 use Rattle.meaning.specs.Plan.{plan}
 use Rattle.text.specs.Writing.{PutAt}
@@ -47,3 +49,9 @@ planned-is sheet new a e w =
       number_is = ap (λ (ws : Words). get_or ws 0 0) w ∙ first-word a ∙ ap number_of e ∙ planned-number sheet ∙ sym (plan-number sheet);
       words_are = w ∙ ap plan_words e;
     }
+
+-- `map` with a closure that gives the number itself
+pub mapped-same : {F : Type 0} (g : Mut F (ℕ × Unit {0}) ℕ) (f : F) (xs ys : List ℕ) (n : ℕ) → IsMapOf g f xs ys n → length xs ≡ n
+    → ((x r : ℕ) (p q : F) → Called g p (x, tt) r q → r ≡ x) → ys ≡ xs
+mapped-same g f xs ys n made l says =
+    ext_get_or 0 ys xs (made.long ∙ sym l) (λ i h. let m = made.at i 0 0 (omega (arith, made.long)) in says _ _ m.0 m.1 m.2)
