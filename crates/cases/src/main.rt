@@ -18,7 +18,8 @@ mod largest;
 ghost use Rattle.std.specs.Prelude.{◌<◌, ◌≤◌, length};
 
 use reading::read_full;
-use store::Answer;
+use sheet::Refusal;
+use store::Done;
 use text::Reader;
 
 // What a line that is no comment asks for.
@@ -88,18 +89,10 @@ fn print_part(rt: &impl Print, words: &[u64]) {
 }
 
 // The number, taken and added.
-fn print_answer(rt: &impl Print, answer: Answer) {
+fn print_answer(rt: &impl Print, answer: Result<Done, Refusal>) {
+    let done = answer.unwrap_or_default();
     print(rt, b":");
-    match answer {
-        Answer::Done(taken, added) => {
-            let three = [0, taken, added];
-            print_words(rt, &three);
-        }
-        Answer::Refused(number) => {
-            let three = [number, 0, 0];
-            print_words(rt, &three);
-        }
-    }
+    print_words(rt, &[sheet::number_of(answer), done.taken, done.added]);
 }
 
 fn print_kind(rt: &impl Print, kind: u64) {
@@ -112,8 +105,7 @@ fn print_kind(rt: &impl Print, kind: u64) {
 }
 
 fn print_shown(rt: &impl Print, sheet: &[u64], store: &[u64], number: u64) {
-    let mut refusal: u64 = 0;
-    let words = store::show(sheet, store, number, &mut refusal);
+    let words = store::show(sheet, store, number).unwrap_or_default();
     print_part(rt, words);
 }
 
@@ -182,13 +174,12 @@ fn show(rt: &impl Print, sheet: &[u64], store: &[u64], words: &[u64]) {
         return;
     }
     let number = words[0];
-    let mut refusal: u64 = 99;
-    let part = store::show(sheet, store, number, &mut refusal);
+    let part = store::show(sheet, store, number);
     print(rt, b"show");
     print_word(rt, number);
     print(rt, b":");
-    print_word(rt, refusal);
-    print_part(rt, part);
+    print_word(rt, sheet::number_of(part));
+    print_part(rt, part.unwrap_or_default());
 }
 
 // The counts, the first two rows of the list and its last.
@@ -250,15 +241,10 @@ fn call_line(
 
 // The length of the store of a good sheet; if there is no room for it, or of any other sheet, the length that was.
 fn length_for(sheet: &[u64], was: usize) -> usize {
-    let checked = sheet_plan::check(sheet);
-    let plan = checked.plan;
-    if plan.tables == 0 {
-        return was;
+    match sheet_plan::check(sheet) {
+        Ok(plan) if plan.store <= 146 => plan.store,
+        _ => was,
     }
-    if 146 < plan.store {
-        return was;
-    }
-    plan.store
 }
 
 fn copy(words: &[u64], to: &mut [u64]) {
