@@ -16,7 +16,7 @@ use store::Done;
 // Fills from lawful base tables. The first pass counts, and where a count exceeds its room nothing is written.
 fn fill_lawful(base: &Base<'_>, plan: &Plan, store: &mut [u64]) -> Result<Done, Refusal>
     requires { Stored base.now.ordered.tables.sheet.now plan.now store.old }
-    ensures { Says (Meant.fill base.now.ordered.tables.sheet.now store.old base.now.ordered.tables.run.now) result store.new }
+    ensures { let tables = base.now.ordered.tables in Says (Meant.fill tables.sheet.now store.old tables.run.now) result store.new }
 {
     if !fill_sides::sides_fit(base, plan) {
         return Err(Refusal::NoRoom);
