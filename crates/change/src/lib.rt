@@ -5,8 +5,8 @@ ghost use Rattle.meaning.specs.Change as Meant;
 ghost use Rattle.meaning.specs.Base.{change_of};
 ghost use Rattle.store.specs.Answers.{Says};
 
-use sheet::{NOT_SOUND, Verdict, WRONG_LENGTH};
-use store::Answer;
+use sheet::Refusal;
+use store::Done;
 
 // Inserts `new` (kind 1), deletes `old` (2) or updates `old` to `new` (3) in a table of which the store holds the side table and the list.
 // A refusal leaves the store untouched.
@@ -17,27 +17,17 @@ pub fn change(
     table: u64,
     old: &[u64],
     new: &[u64],
-) -> Answer
+) -> Result<Done, Refusal>
     ensures { Says (Meant.change sheet.now store.old (change_of kind table old.now new.now))
         result store.new }
 {
-    let checked = sheet_plan::check(sheet);
-    let v = checked.verdict;
-    let plan = checked.plan;
-    let Verdict::Good = v else {
-        let number = sheet::number_of(v);
-        return Answer::Refused(number);
-    };
+    let plan = sheet_plan::check(sheet)?;
     if store.len() != plan.store {
-        return Answer::Refused(WRONG_LENGTH);
+        return Err(Refusal::WrongLength);
     }
-    let asked = change_asked::asked(sheet, kind, table, old, new);
-    let Verdict::Good = asked else {
-        let number = sheet::number_of(asked);
-        return Answer::Refused(number);
-    };
+    change_asked::asked(sheet, kind, table, old, new)?;
     if !store::is_sound(&plan, store) {
-        return Answer::Refused(NOT_SOUND);
+        return Err(Refusal::NotSound);
     }
-    change_apply::apply(sheet, plan, store, kind, table as usize, old, new)
+    change_apply::apply(sheet, &plan, store, kind, table as usize, old, new)
 }

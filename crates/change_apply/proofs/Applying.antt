@@ -21,23 +21,25 @@ use Rattle.laws.proofs.Lists.{facts}
 use Rattle.laws.proofs.Changes.{after-sound}
 use Rattle.laws.proofs.Updates.{tied-get}
 use Rattle.sheet.proofs.Words.{n-is}
-use Rattle.sheet.specs.declared.Verdict.TheVariants as Verdicts
+use Rattle.std.specs.Prelude.{Ok}
 use Rattle.change_asked.specs.Asked.{asked_of}
 use Rattle.change_asked.proofs.Tests.{asked-good, no_kind}
 use Rattle.sheet_plan.specs.declared.Plan.{Plan}
 use Rattle.walk.specs.Grounds.{Lent}
-use Rattle.store.specs.declared.Answer.{Answer}
 use Rattle.store.specs.Answers.{Says}
 use Rattle.effects.specs.Applied.{applied}
 use Rattle.change_laws.specs.Ready.{Ready}
 use Rattle.change_apply.specs.Applies.{Applies}
+use Rattle.std.specs.Prelude.{Result}
+use Rattle.sheet.specs.declared.refusal.Refusal.{Refusal}
+use Rattle.store.specs.declared.Done.{Done}
 
 -- The row of an insert, of a delete, the rows of an update
 module _ (ws : Words) (t : ℕ) (r r' : Row) where
   inside : (b : Bool) → T (ltb t (sheet_of ws).n && b) → t < table_count ws
   inside b h = subst (λ (n : ℕ). t < n) (n-is ws) (ltb→lt t (sheet_of ws).n (and-fst (ltb t (sheet_of ws).n) b h))
 
-  pub insert-lent : asked_of ws (change_of 1 t r r') ≡ Verdicts.Good → Lent ws t r'
+  pub insert-lent : asked_of ws (change_of 1 t r r') ≡ Ok tt → Lent ws t r'
   unfolding good_change
   insert-lent h =
       let good = is_t (asked-good ws (change_of 1 t r r') h).0 in
@@ -45,7 +47,7 @@ module _ (ws : Words) (t : ℕ) (r r' : Row) where
       let w = facts (eqb (length r) 0 ∷ has_width (sheet_of ws) t r' ∷ []) (and-snd (ltb t (sheet_of ws).n) rows good) in
       record { table = inside rows good; wide = eqb→≡ (length r') (width (sheet_of ws) t) w.1.0 }
 
-  pub delete-lent : asked_of ws (change_of 2 t r r') ≡ Verdicts.Good → Lent ws t r
+  pub delete-lent : asked_of ws (change_of 2 t r r') ≡ Ok tt → Lent ws t r
   unfolding good_change
   delete-lent h =
       let good = is_t (asked-good ws (change_of 2 t r r') h).0 in
@@ -53,7 +55,7 @@ module _ (ws : Words) (t : ℕ) (r r' : Row) where
       let w = facts (has_width (sheet_of ws) t r ∷ eqb (length r') 0 ∷ []) (and-snd (ltb t (sheet_of ws).n) rows good) in
       record { table = inside rows good; wide = eqb→≡ (length r) (width (sheet_of ws) t) w.0 }
 
-  module _ (h : asked_of ws (change_of 3 t r r') ≡ Verdicts.Good) where
+  module _ (h : asked_of ws (change_of 3 t r r') ≡ Ok tt) where
     lent_both : (Lent ws t r × Lent ws t r') × (key r ≡ key r')
     unfolding good_change
     lent_both =
@@ -90,9 +92,9 @@ module _ (s : Sheet) (g : Good s) (ws : Words) (ok : T (sound s ws)) (c : Change
       go false b h = ok
 
 -- each way through `apply`: the kind that is asked for, and what its function answers
-module _ (ws : Words) (kind t : ℕ) (r r' : Row) (h : asked_of ws (change_of kind t r r') ≡ Verdicts.Good) where
-  asked-as : (k : ℕ) → kind ≡ k → asked_of ws (change_of k t r r') ≡ Verdicts.Good
-  asked-as k e = subst (λ (j : ℕ). asked_of ws (change_of j t r r') ≡ Verdicts.Good) e h
+module _ (ws : Words) (kind t : ℕ) (r r' : Row) (h : asked_of ws (change_of kind t r r') ≡ Ok tt) where
+  asked-as : (k : ℕ) → kind ≡ k → asked_of ws (change_of k t r r') ≡ Ok tt
+  asked-as k e = subst (λ (j : ℕ). asked_of ws (change_of j t r r') ≡ Ok tt) e h
 
   pub inserts : kind ≡ 1 → Lent ws t r'
   inserts e = insert-lent ws t r r' (asked-as 1 e)
@@ -106,7 +108,7 @@ module _ (ws : Words) (kind t : ℕ) (r r' : Row) (h : asked_of ws (change_of ki
   pub no_other : (kind ≡ 1 → ⊥) → (kind ≡ 2 → ⊥) → (kind ≡ 3 → ⊥) → ⊥
   no_other a b c = let e = no_kind ws kind t r r' a b c ∙ h in let q : ◌≡◌ {A = ℕ} 0 1 = cc in omega arith
 
-  module _ (store : Words) (plan : Plan) (ready : Ready ws store plan) (a : Answer) (exit : Words) where
+  module _ (store : Words) (plan : Plan) (ready : Ready ws store plan) (a : Result Done Refusal) (exit : Words) where
     pub applies : (k : ℕ) → kind ≡ k → Says (applied (sheet_of ws) store (change_of k t r r')) a exit → Applies ws store (change_of kind t r r') a exit
     applies k e x =
         record {

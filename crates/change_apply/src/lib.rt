@@ -1,35 +1,34 @@
 // A change below its tests, on a sound store: what it does to it and what it answers. The store is sound again after it.
 #![tactic(auto)]
 
-ghost use Rattle.std.specs.Prelude.{◌≡◌};
+ghost use Rattle.std.specs.Prelude.{◌≡◌, Ok};
 ghost use Rattle.meaning.specs.Base.{change_of};
-ghost use Rattle.sheet.specs.declared.Verdict.TheVariants.{Good};
 ghost use Rattle.change_asked.specs.Asked.{asked_of};
 ghost use Rattle.change_laws.specs.Ready.{Ready};
 ghost use Rattle.change_apply.specs.Applies.{Applies};
 
-use sheet::BAD_CHANGE;
+use sheet::Refusal;
 use sheet_plan::Plan;
-use store::Answer;
+use store::Done;
 
 // The change that was asked for, by its kind; no other kind passes the tests.
 pub fn apply(
     sheet: &[u64],
-    plan: Plan,
+    plan: &Plan,
     store: &mut [u64],
     kind: u64,
     table: usize,
     old: &[u64],
     new: &[u64],
-) -> Answer
-    requires ready { Ready sheet.now store.old plan }
-    requires value { asked_of sheet.now (change_of kind table old.now new.now) ≡ Good }
+) -> Result<Done, Refusal>
+    requires ready { Ready sheet.now store.old plan.now }
+    requires value { asked_of sheet.now (change_of kind table old.now new.now) ≡ Ok tt }
     ensures { Applies sheet.now store.old (change_of kind table old.now new.now) result store.new }
 {
     match kind {
         1 => change_insert::insert(sheet, plan, store, table, new),
         2 => change_delete::delete(sheet, plan, store, table, old),
         3 => change_update::update(sheet, plan, store, table, old, new),
-        0 | 4..=u64::MAX => Answer::Refused(BAD_CHANGE),
+        0 | 4..=u64::MAX => Err(Refusal::BadRequest),
     }
 }

@@ -22,7 +22,6 @@ use Rattle.effects.proofs.Inserts.{insert-contradicts, insert-none, insert-no-ro
 use Rattle.sheet_plan.specs.declared.Plan.{Plan}
 use Rattle.walk.specs.Grounds.{Lent}
 use Rattle.store.specs.declared.Part.{Part}
-use Rattle.store.specs.declared.Answer.TheVariants.{Done, Refused}
 use Rattle.store.specs.Parts.{rows_in, count_in, Lies, Wrote}
 use Rattle.store.proofs.Answers.{says-refused}
 use Rattle.store.proofs.Lying.{count-is}
@@ -32,6 +31,9 @@ use Rattle.side_table.proofs.Tests.{room-full, room-free}
 use Rattle.change_laws.proofs.Answers.{says_nothing}
 use Rattle.change_laws.proofs.Halves.{ready-good, ready-table, half-side, says_both}
 use Rattle.change_insert.specs.Inserts.{Inserts}
+use Rattle.std.specs.Prelude.{Err}
+use Rattle.store.specs.Answers.{accepts}
+use Rattle.sheet.specs.declared.refusal.Refusal.TheVariants.{Contradiction, NoRoom}
 
 -- All tests let the insert pass: its key is new, it is qualified, and its side table and the list have room for what k ways give
 pub record Insertable (ws store : Words) (plan : Plan) (t : ℕ) (r : Row) (list : Part) (k : ℕ) : Type 0 where
@@ -52,12 +54,12 @@ module _ {ws store : Words} {plan : Plan} (rd : Ready ws store plan) {t : ℕ} {
 
   -- "an insert whose key is in R's kept side table", also if the row isn't qualified
   module _ (b : Bool) (e : b ≡ new_key (model_of (sheet_of ws) store) t r) where
-    pub inserts-contradicts : not b ≡ true → Inserts ws store t r (Refused 8) store
+    pub inserts-contradicts : not b ≡ true → Inserts ws store t r (Err Contradiction) store
     inserts-contradicts h =
         let there : has_key (key r) (rows_at (sheet_of ws) store t) ≡ true =
         not-false (has_key (key r) (rows_at (sheet_of ws) store t)) (sym (key-is b e) ∙ not-true b h) in
         record {
-          says = λ o. says-refused (applied (sheet_of ws) store (change_of 1 t o r)) 8 store (λ z. omega arith)
+          says = λ o. says-refused (applied (sheet_of ws) store (change_of 1 t o r)) Contradiction store
               (insert-contradicts (sheet_of ws) (ready-good rd) store rd.sound t (ready-table rd lent) o r there);
         }
 
@@ -67,7 +69,7 @@ module _ {ws store : Words} {plan : Plan} (rd : Ready ws store plan) {t : ℕ} {
 
       -- a row that isn't qualified changes nothing
       module _ (q : Bool) (eq : q ≡ qualifies (sheet_of ws) (model_of (sheet_of ws) store) t r) where
-        pub inserts-none : not q ≡ true → Inserts ws store t r (Done 0 0) store
+        pub inserts-none : not q ≡ true → Inserts ws store t r (accepts 0 0) store
         inserts-none fails =
             record {
               says = λ o. says_nothing (applied (sheet_of ws) store (change_of 1 t o r)) store
@@ -80,11 +82,11 @@ module _ {ws store : Words} {plan : Plan} (rd : Ready ws store plan) {t : ℕ} {
 
           -- its side table is full
           module _ (c : Bool) (ec : c ≡ has_room (sheet_of ws) store t) where
-            pub inserts-no-room-side : not c ≡ true → Inserts ws store t r (Refused 9) store
+            pub inserts-no-room-side : not c ≡ true → Inserts ws store t r (Err NoRoom) store
             inserts-no-room-side full =
                 let f = room-full (sheet_of ws) store t (sym ec ∙ not-true c full) in
                 record {
-                  says = λ o. says-refused (applied (sheet_of ws) store (change_of 1 t o r)) 9 store (λ z. omega arith)
+                  says = λ o. says-refused (applied (sheet_of ws) store (change_of 1 t o r)) NoRoom store
                       (insert-no-room-side (sheet_of ws) (ready-good rd) store rd.sound t (ready-table rd lent) o r new fine f.0 f.1);
                 }
 
@@ -95,12 +97,12 @@ module _ {ws store : Words} {plan : Plan} (rd : Ready ws store plan) {t : ℕ} {
 
               -- the list has not so much room
               pub inserts-no-room-list : list.room < count_in list store + length (walk_rows (sheet_of ws) (model_of (sheet_of ws) store) t r)
-                  → (exit : Words) → exit ≡ store → Inserts ws store t r (Refused 9) exit
+                  → (exit : Words) → exit ≡ store → Inserts ws store t r (Err NoRoom) exit
               inserts-no-room-list full exit same =
                   let s = sheet_of ws in
                   let more : room s s.n < length (walk_rows s (model_of s store) t r) + count s store s.n = omega (arith, lies.room-is, listed-is) in
                   rw same (record {
-                    says = λ o. says-refused (applied s store (change_of 1 t o r)) 9 store (λ z. omega arith)
+                    says = λ o. says-refused (applied s store (change_of 1 t o r)) NoRoom store
                         (insert-no-room-list s (ready-good rd) store rd.sound t (ready-table rd lent) o r new fine more);
                   })
 
@@ -132,7 +134,7 @@ module _ {ws store : Words} {plan : Plan} {t : ℕ} {r : Row} {list : Part} {k :
         subst (λ (n : ℕ). T (not (kept s t) || ltb n (room s t))) (sym same) p.free
 
     -- and the side table its row
-    pub inserts-done : (exit : Words) → Sided (sheet_of ws) t (put_rows (side_row (sheet_of ws) t r)) mid exit → Inserts ws store t r (Done 0 k) exit
+    pub inserts-done : (exit : Words) → Sided (sheet_of ws) t (put_rows (side_row (sheet_of ws) t r)) mid exit → Inserts ws store t r (accepts 0 k) exit
     inserts-done exit si =
         let s = sheet_of ws in
         let rd = p.ready in

@@ -21,8 +21,7 @@ use Rattle.walk.specs.Routes.{route_of}
 use Rattle.walk.specs.Grounds.{Ground, Lent}
 use Rattle.walk.proofs.Grounds.{ground}
 use Rattle.store.specs.declared.Part.{Part}
-use Rattle.store.specs.declared.Answer.TheVariants.{Done}
-use Rattle.store.specs.Answers.{Says}
+use Rattle.store.specs.Answers.{accepts, Says}
 use Rattle.store.specs.Parts.{rows_in, Lies, Wrote}
 use Rattle.store.specs.Plans.{part_of}
 use Rattle.store.proofs.Lying.{rows_is, wrote-stands}
@@ -83,7 +82,7 @@ module _ {ws store : Words} {plan : Plan} (rd : Ready ws store plan) where
       (w : Wrote list (g (rows_in list store)) store mid) (t : ℕ) (l : t < (sheet_of ws).n) (si : Sided (sheet_of ws) t f mid exit) where
     pub says_both : (k j taken added : ℕ) (o : Outcome)
         → o ≡ done (sheet_of ws) store t k j (f (rows_at (sheet_of ws) store t)) (g (rows_at (sheet_of ws) store (sheet_of ws).n))
-        → taken ≡ k → added ≡ j → Says o (Done taken added) exit
+        → taken ≡ k → added ≡ j → Says o (accepts taken added) exit
     says_both k j taken added o e p q =
         let s = sheet_of ws in
         let listed = g (rows_at s store s.n) in

@@ -35,26 +35,27 @@ use Rattle.change_taken.proofs.Finding.{fits-lent}
 use Rattle.store.proofs.Lying.{rows_is}
 use Rattle.walk.specs.Grounds.{Lent}
 use Rattle.store.specs.declared.Part.{Part}
-use Rattle.store.specs.declared.Answer.TheVariants.{Done, Refused}
 use Rattle.store.specs.Parts.{count_in, rows_in, Lies}
 use Rattle.store.proofs.Answers.{says-refused}
 use Rattle.side_table.specs.Sides.{Replaceable, Sided}
 use Rattle.change_laws.specs.Ready.{Ready}
 use Rattle.change_laws.proofs.Answers.{says_nothing}
 use Rattle.change_laws.proofs.Halves.{ready-good, ready-table, half-side, says_both}
-use Rattle.change_taken.specs.declared.Taken.{Taken}
-use Rattle.change_taken.specs.declared.Taken.TheVariants.{All, Contrary}
+use Rattle.std.specs.Prelude.{Option, Some, None}
 use Rattle.change_update.specs.Updates.{ReplacedTaken, Updates}
+use Rattle.std.specs.Prelude.{Err}
+use Rattle.store.specs.Answers.{accepts}
+use Rattle.sheet.specs.declared.refusal.Refusal.TheVariants.{Contradiction}
 
 module _ {ws store : Words} {plan : Plan} (rd : Ready ws store plan) {t : ℕ} {r : Row} (lent : Lent ws t r) (r' : Row)
     (q : Bool) (eq : q ≡ qualifies (sheet_of ws) (model_of (sheet_of ws) store) t r)
     (b : Bool) (eb : b ≡ old_row (sheet_of ws) (model_of (sheet_of ws) store) t r)
   where
     -- the side table contradicts it
-    pub updates-contradicts-side : not b ≡ true → Updates ws store t r r' (Refused 8) store
+    pub updates-contradicts-side : not b ≡ true → Updates ws store t r r' (Err Contradiction) store
     updates-contradicts-side h =
         record {
-          says = says-refused (applied (sheet_of ws) store (change_of 3 t r r')) 8 store (λ z. omega arith)
+          says = says-refused (applied (sheet_of ws) store (change_of 3 t r r')) Contradiction store
               (update-contradicts-side (sheet_of ws) (ready-good rd) store rd.sound t (ready-table rd lent) r r' (sym eb ∙ not-true b h));
         }
 
@@ -62,31 +63,31 @@ module _ {ws store : Words} {plan : Plan} (rd : Ready ws store plan) {t : ℕ} {
       old : old_row (sheet_of ws) (model_of (sheet_of ws) store) t r ≡ true
       old = sym eb ∙ not-false b h
 
-      pub updates-none : not q ≡ true → Updates ws store t r r' (Done 0 0) store
+      pub updates-none : not q ≡ true → Updates ws store t r r' (accepts 0 0) store
       updates-none f =
           record {
             says = says_nothing (applied (sheet_of ws) store (change_of 3 t r r')) store
                 (update-none (sheet_of ws) (ready-good rd) store rd.sound t (ready-table rd lent) r r' old (sym eq ∙ not-true q f));
           }
 
-      module _ (f : not q ≡ false) (numbers : Words) (a : Taken) (m : ReplacedTaken ws store t r numbers a) where
+      module _ (f : not q ≡ false) (numbers : Words) (a : Option ℕ) (m : ReplacedTaken ws store t r numbers a) where
         fine : qualifies (sheet_of ws) (model_of (sheet_of ws) store) t r ≡ true
         fine = sym eq ∙ not-false q f
 
         -- the list does
-        pub updates-contradicts-list : a ≡ Contrary → Updates ws store t r r' (Refused 8) store
+        pub updates-contradicts-list : a ≡ None → Updates ws store t r r' (Err Contradiction) store
         updates-contradicts-list e =
             let s = sheet_of ws in
             record {
-              says = says-refused (applied s store (change_of 3 t r r')) 8 store (λ z. omega arith)
+              says = says-refused (applied s store (change_of 3 t r r')) Contradiction store
                   (⊎_elim (λ x. update-contradicts-shown s (ready-good rd) store rd.sound t (ready-table rd lent) r r' old x)
                   (λ x. update-contradicts-list s (ready-good rd) store rd.sound t (ready-table rd lent) r r' old fine x.0 x.1)
                   (subst (ReplacedTaken ws store t r numbers) e m fine));
             }
 
         -- the marked rows can be replaced
-        module _ (k : ℕ) (e : a ≡ All k) (list : Part) (lies : Lies (sheet_of ws) (sheet_of ws).n list) where
-          so : ReplacedTaken ws store t r numbers (All k)
+        module _ (k : ℕ) (e : a ≡ Some k) (list : Part) (lies : Lies (sheet_of ws) (sheet_of ws).n list) where
+          so : ReplacedTaken ws store t r numbers (Some k)
           so = subst (ReplacedTaken ws store t r numbers) e m
 
           many : length (rows_at (sheet_of ws) store (sheet_of ws).n) ≡ count_in list store
@@ -124,7 +125,7 @@ module _ {ws store : Words} {plan : Plan} (rd : Ready ws store plan) {t : ℕ} {
               }
 
         -- the list's rows are replaced, and then the side row
-        module _ (ti : Tied (sheet_of ws) t r r') (k : ℕ) (e : a ≡ All k) (list : Part) (lies : Lies (sheet_of ws) (sheet_of ws).n list) (mid : Words)
+        module _ (ti : Tied (sheet_of ws) t r r') (k : ℕ) (e : a ≡ Some k) (list : Part) (lies : Lies (sheet_of ws) (sheet_of ws).n list) (mid : Words)
             (w : RowsReplaced ws t r' (take k numbers) list store mid) where
           pub replaceable : Replaceable (sheet_of ws) mid t r r'
           replaceable =
@@ -141,7 +142,7 @@ module _ {ws store : Words} {plan : Plan} (rd : Ready ws store plan) {t : ℕ} {
 
           pub updates-done : (exit : Words)
               → Sided (sheet_of ws) t (λ (rows : Rows). put_rows (side_row (sheet_of ws) t r') (take_rows (side_row (sheet_of ws) t r) rows)) mid exit
-              → Updates ws store t r r' (Done k k) exit
+              → Updates ws store t r r' (accepts k k) exit
           unfolding gives
           updates-done exit si =
               let s = sheet_of ws in
