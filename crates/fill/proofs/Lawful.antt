@@ -23,10 +23,9 @@ use Rattle.places.specs.Stands.{Stands}
 use Rattle.places.proofs.Stands.{stands-words}
 use Rattle.sheet.proofs.Words.{n-is}
 use Rattle.sheet_plan.specs.declared.Plan.{Plan}
-use Rattle.store.specs.declared.Answer.TheVariants.{Done, Refused}
 use Rattle.store.specs.declared.Part.{Part}
 use Rattle.store.specs.Plans.{part_of}
-use Rattle.store.specs.Answers.{Says}
+use Rattle.store.specs.Answers.{accepts, Says}
 use Rattle.store.proofs.Answers.{says-refused, says-done}
 use Rattle.walk.specs.Routes.{route_of}
 use Rattle.filling.specs.Written.{side_fits, list_fits}
@@ -43,6 +42,8 @@ use Rattle.fill_list.specs.Putting.{Rooted, Blank}
 use Rattle.fill_list.proofs.Counts.{lawful-tables}
 use Rattle.fill_list.proofs.Grounds.{sides-sound, planned-ground}
 use Rattle.fill.specs.Tested.{Stored, Tested}
+use Rattle.std.specs.Prelude.{Err}
+use Rattle.sheet.specs.declared.refusal.Refusal.TheVariants.{NoRoom}
 
 -- Lawful base tables
 module _ {ws store run : Words} {plan : Plan} {starts numbers : List ℕ} (st : Stored ws plan store) (te : Tested ws run starts numbers) where
@@ -64,10 +65,10 @@ module _ {ws store run : Words} {plan : Plan} {starts numbers : List ℕ} (st : 
   unfolding tables_of
   fits-are b c e f = fits-is (sheet_of ws) (tables_of ws run) ∙ rw (sym (fits_all ws run) ∙ e, f)
 
-  full : fits (sheet_of ws) (meaning (sheet_of ws) (base_of (sheet_of ws) run)) ≡ false → Says (fill ws store run) (Refused 9) store
-  full f = says-refused (fill ws store run) 9 store (λ z. omega arith) (fill-no-room ws store run st.good.not-refused st.long base-is f)
+  full : fits (sheet_of ws) (meaning (sheet_of ws) (base_of (sheet_of ws) run)) ≡ false → Says (fill ws store run) (Err NoRoom) store
+  full f = says-refused (fill ws store run) NoRoom store (fill-no-room ws store run st.good.not-refused st.long base-is f)
 
-  pub sides-refused : every (fits_no ws run) (table_count ws) ≡ false → Says (fill ws store run) (Refused 9) store
+  pub sides-refused : every (fits_no ws run) (table_count ws) ≡ false → Says (fill ws store run) (Err NoRoom) store
   sides-refused e = full (fits-are false (list_fits (sheet_of ws) (tables_of ws run)) e refl)
 
   module _ (sides : every (fits_no ws run) (table_count ws) ≡ true) (list : Part) (e : list ≡ part_of plan plan.tables) (added : ℕ)
@@ -75,7 +76,7 @@ module _ {ws store run : Words} {plan : Plan} {starts numbers : List ℕ} (st : 
     room-is : list.room ≡ room (sheet_of ws) (sheet_of ws).n
     room-is = (list-lies (sheet_of ws) plan st.planned list e).room-is
 
-    pub list-refused : list.room < added → Says (fill ws store run) (Refused 9) store
+    pub list-refused : list.room < added → Says (fill ws store run) (Err NoRoom) store
     list-refused h = full (fits-are true false sides no)
       where
         no : list_fits (sheet_of ws) (tables_of ws run) ≡ false
@@ -106,7 +107,7 @@ module _ {ws store run : Words} {plan : Plan} {starts numbers : List ℕ} (st : 
             fits = omega arith;
           }
 
-      pub filled-says : (exit : Words) → Stands (sheet_of ws) exit (meaning (sheet_of ws) (tables_of ws run)) → Says (fill ws store run) (Done 0 added) exit
+      pub filled-says : (exit : Words) → Stands (sheet_of ws) exit (meaning (sheet_of ws) (tables_of ws run)) → Says (fill ws store run) (accepts 0 added) exit
       unfolding filled tables_of
       filled-says exit h =
           rw (fill_done ws store run st.good.not-refused st.long base-is has_room)

@@ -8,9 +8,9 @@ ghost use Rattle.store.specs.Answers.{Says};
 ghost use Rattle.filling.specs.Runs.{good_run};
 ghost use Rattle.fill.specs.Tested.{Stored, Tested};
 
-use sheet::{BAD_BASE, NO_ROOM, ROWS, TABLES, Verdict, WRONG_LENGTH};
+use sheet::{ROWS, Refusal, TABLES};
 use sheet_plan::Plan;
-use store::Answer;
+use store::Done;
 
 // Writes zeros over the whole store.
 fn clear(store: &mut [u64])
@@ -31,27 +31,30 @@ fn fill_lawful(
     starts: [usize; TABLES + 1],
     numbers: &[u16],
     store: &mut [u64],
-) -> Answer
+) -> Result<Done, Refusal>
     requires stored { Stored sheet.now plan store.old }
     requires tested { Tested sheet.now run.now starts numbers.now }
     ensures { Says (Meant.fill sheet.now store.old run.now) result store.new }
 {
     if !fill_sides::sides_fit(sheet, plan, run, starts, numbers) {
-        return Answer::Refused(NO_ROOM);
+        return Err(Refusal::NoRoom);
     }
     let list = store::part_of(&plan, plan.tables);
     let added = fill_list::count_list(sheet, run, starts, numbers, plan.root);
     if list.room < added {
-        return Answer::Refused(NO_ROOM);
+        return Err(Refusal::NoRoom);
     }
     clear(store);
     fill_sides::write_sides(sheet, plan, run, starts, numbers, store);
     fill_list::write_list(sheet, plan, run, starts, store, list);
-    Answer::Done(0, added as u64)
+    Ok(Done {
+        taken: 0,
+        added: added as u64,
+    })
 }
 
 // Fills from a base run with good counts: its row numbers are put in key order, 65,535 places for each table, and its tables tested.
-fn fill_run(sheet: &[u64], plan: Plan, run: &[u64], store: &mut [u64]) -> Answer
+fn fill_run(sheet: &[u64], plan: Plan, run: &[u64], store: &mut [u64]) -> Result<Done, Refusal>
     requires stored { Stored sheet.now plan store.old }
     requires run_value { good_run (sheet_of sheet.now) run.now ≡ true }
     ensures { Says (Meant.fill sheet.now store.old run.now) result store.new }
@@ -61,26 +64,21 @@ fn fill_run(sheet: &[u64], plan: Plan, run: &[u64], store: &mut [u64]) -> Answer
     let mut spare = [0u16; ROWS / 2 + 1];
     base_run::order_tables(sheet, run, starts, &mut numbers, &mut spare);
     if !base_run::is_lawful(sheet, run, starts, &numbers) {
-        return Answer::Refused(BAD_BASE);
+        return Err(Refusal::BadBase);
     }
     fill_lawful(sheet, plan, run, starts, &numbers, store)
 }
 
 // Fills the store from base tables: "fill tests 1, 2, 3, 4, 10, 9", and does not read the old store.
-pub fn fill(sheet: &[u64], base: &[u64], store: &mut [u64]) -> Answer
+pub fn fill(sheet: &[u64], base: &[u64], store: &mut [u64]) -> Result<Done, Refusal>
     ensures { Says (Meant.fill sheet.now store.old base.now) result store.new }
 {
-    let checked = sheet_plan::check(sheet);
-    let v = checked.verdict;
-    let plan = checked.plan;
-    let Verdict::Good = v else {
-        return Answer::Refused(sheet::number_of(v));
-    };
+    let plan = sheet_plan::check(sheet)?;
     if store.len() != plan.store {
-        return Answer::Refused(WRONG_LENGTH);
+        return Err(Refusal::WrongLength);
     }
     if !base_run::run_ok(sheet, base) {
-        return Answer::Refused(BAD_BASE);
+        return Err(Refusal::BadBase);
     }
     fill_run(sheet, plan, base, store)
 }

@@ -25,7 +25,8 @@ use Rattle.filling.proofs.Sides.{side-count}
 use Rattle.base_run.specs.Bases.{tables_of}
 use Rattle.base_run.proofs.Steps.{good_of}
 use Rattle.base_run.proofs.Tests.{rows-count}
-use Rattle.base_qualified.specs.Qualifying.{Based, passes_no, passing_count}
+use Rattle.base_qualified.specs.Qualifying.{passes_no, passing_count}
+use Rattle.base_qualified.proofs.Bases.{Based}
 use Rattle.fill_sides.specs.Sides.{side_of, fits_no}
 
 -- with all tables left on the path
@@ -64,11 +65,6 @@ module _ (ws : Words) {p : Plan} (plan : GoodPlan (sheet_of ws) p) {t : ℕ} (l 
   room-is : get_or p.rooms t 0 ≡ room (sheet_of ws) t
   room-is = plan.planned.rooms-at t (omega (arith, n-is ws))
 
-  module _ (run : Words) (many : ℕ) (e : many ≡ length (side_of ws run t)) where
-    pub fits-over : get_or p.rooms t 0 < many → false ≡ fits_no ws run t
-    unfolding fits_no side_fits side_of
-    fits-over h = sym (ap₂ leb (sym e) (sym room-is) ∙ lt-leb many (get_or p.rooms t 0) h)
-
-    pub fits-room : many ≤ get_or p.rooms t 0 → true ≡ fits_no ws run t
-    unfolding fits_no side_fits side_of
-    fits-room h = sym (ap₂ leb (sym e) (sym room-is) ∙ le-leb many (get_or p.rooms t 0) h)
+  pub fits-kept : (run : Words) (many : ℕ) → many ≡ length (side_of ws run t) → leb many (get_or p.rooms t 0) ≡ fits_no ws run t
+  unfolding fits_no side_fits side_of
+  fits-kept run many e = ap₂ leb e room-is

@@ -23,9 +23,9 @@ use Rattle.filling.specs.Qualifies.{numbered}
 use Rattle.filling.proofs.Runs.{words_long, rows_are}
 use Rattle.filling.proofs.Sides.{KeysUp}
 use Rattle.base_run.specs.Bases.{tables_of, numbers_of}
-use Rattle.base_run.proofs.Lends.{span, width_some}
+use Rattle.base_run.proofs.Lends.{width_some, numbers-many}
 use Rattle.base_run.proofs.Tests.{rows-count}
-use Rattle.base_qualified.specs.Qualifying.{Based}
+use Rattle.base_qualified.proofs.Bases.{Based}
 
 numbered-at : (rows : Rows) (order : List ℕ) (i : ℕ) → i < length order → get_or (numbered rows order) i [] ≡ get_or rows (at order i) []
 unfolding numbered
@@ -41,18 +41,8 @@ module _ {ws run : Words} {starts order : List ℕ} (b : Based ws run starts ord
   inside : t < (sheet_of ws).n
   inside = omega (arith, n-is ws)
 
-  -- its places
-  pub number-place : {j : ℕ} → j < at run t → 65535 * t + j < length order
-  number-place h = omega (arith, span b.laid l, b.orders.long)
-
-  pub number_is : (j : ℕ) → j < at run t → at order (65535 * t + j) ≡ at (numbers_of run order t) j
-  unfolding numbers_of part
-  number_is j h =
-      sym (get_or-take (65535 * t + at run t - 65535 * t) (drop (65535 * t) order) j 0 (omega arith) ∙ get_or-drop (65535 * t) order j 0)
-
   pub order-long : length (numbers_of run order t) ≡ at run t
-  unfolding numbers_of
-  order-long = length_part order (65535 * t) (65535 * t + at run t) (omega (arith, span b.laid l, b.orders.long)) ∙ omega arith
+  order-long = numbers-many b.laid l order b.orders.long
 
   -- all of the table's
   pub order_same : Same (numbers_of run order t) (up_to (length (rows_of (tables_of ws run) t)))
@@ -67,8 +57,16 @@ module _ {ws run : Words} {starts order : List ℕ} (b : Based ws run starts ord
             (rw order-long (omega (arith, words_long (sheet_of ws) run b.laid.counted t inside))) (b.orders.ordered t l) j (omega (arith, order-long)),
       )
 
-  pub number_in : (j i : ℕ) → j < at run t → i ≡ at order (65535 * t + j) → i < at run t
-  number_in j i h e = omega (arith, number_is j h, order_row j h)
+  -- one of them, as it is lent
+  module _ {ns : List ℕ} (is : ns ≡ numbers_of run order t) {j : ℕ} (h : j < length ns) {i : ℕ} (e : i ≡ at ns j) where
+    pub number_turn : j < at run t
+    number_turn = omega (arith, ap length is, order-long)
+
+    pub number_is : i ≡ at (numbers_of run order t) j
+    number_is = rw is at e
+
+    pub number_in : i < at run t
+    number_in = omega (arith, number_is, order_row j number_turn)
 
   -- in the order of their keys
   key_of : (i : ℕ) → i < at run t → key (get_or (rows_of (tables_of ws run) t) i []) ≡ at (table_words (sheet_of ws) run t) (i * width (sheet_of ws) t)

@@ -1,7 +1,7 @@
 -- A side table's rows as they are written: a row column by column, and each row behind those before it.
 -- Assumes nothing.
 use Prim.Native.Nat.{ℕ, zero, suc, ◌+◌, ◌*◌, ◌<◌, ◌≤◌}
-use mathlib.Core.Path.{◌≡◌, refl, sym, ap, ◌∙◌, subst}
+use mathlib.Core.Path.{◌≡◌, refl, sym, ap, ap₂, ◌∙◌, subst}
 use mathlib.Core.Bool.{true, false}
 use mathlib.Core.List.{List, [], ◌∷◌, ◌++◌, map}
 use native.Mathlib.Nat.{not-suc-le-zero, le_of_suc-le-suc, mul-le-mul_right}
@@ -32,9 +32,14 @@ use Rattle.filling.proofs.Sides.{side-none, side-hit, side-miss, side-all}
 use Rattle.base_run.specs.Bases.{tables_of, numbers_of, Laid}
 use Rattle.base_run.proofs.Steps.{good_of}
 use Rattle.base_qualified.specs.Qualifying.{passes_no}
-use Rattle.fill_sides.specs.Sides.{side_of, side_row_no, rows_to, PartReady, Front}
-use Rattle.fill_sides.proofs.Numbers.{number_is, order-long, order_same, order-up}
+use Rattle.base_qualified.proofs.Bases.{Based}
+use Rattle.fill_sides.specs.Sides.{side_of, rows_to, PartReady, Front}
+use Rattle.fill_sides.proofs.Numbers.{order-long, order_same, order-up}
 use Rattle.fill_sides.proofs.Counts.{passes-all}
+
+-- row i of table t as the side table shows it
+unfoldable pub side_row_no : Words → Words → ℕ → ℕ → Row
+side_row_no ws run t i = pick (shown (sheet_of ws) t) (row_no (tables_of ws run) t i)
 
 -- One row: its columns are the table's, and each is written at its place
 pub column-in : (s : Sheet) (t : ℕ) (columns : List ℕ) (k : ℕ) → columns ≡ shown s t → k < length columns → at columns k < width s t
@@ -45,20 +50,11 @@ picked [] r k h = absurd (not-suc-le-zero h)
 picked (x ∷ columns) r zero h = refl
 picked (x ∷ columns) r (suc k) h = picked columns r k (le_of_suc-le-suc h)
 
-module _ {ws run : Words} {starts : List ℕ} (b : Laid ws run starts) {t i : ℕ} (l : t < table_count ws) (h : i < at run t) where
-  pub column-more : (s x : Words) (place : ℕ) (columns : List ℕ) (k v : ℕ) → columns ≡ shown (sheet_of ws) t → place + length columns ≤ length s
-      → k < length columns → v ≡ at (row_no (tables_of ws run) t i) (at columns k) → x ≡ written s place (side_row_no ws run t i) k
-      → set x (place + k) v ≡ written s place (side_row_no ws run t i) (k + 1)
-  unfolding side_row_no
-  column-more s x place columns k v e fits m q inv =
-      let r = row_no (tables_of ws run) t i in
-      let shows = shown (sheet_of ws) t in
-      let is : at (pick shows r) k ≡ v = ap (λ (l : List ℕ). at (pick l r) k) (sym e) ∙ picked columns r k m ∙ sym q in
-      ap (λ (v : ℕ). set x (place + k) v) (sym is)
-      ∙ written_step s x place (pick shows r) k (omega arith) (omega (arith, length-map shows (at r), ap length e)) inv
-
-pub columns-end : (s x : Words) (place : ℕ) (v : Row) (k n : ℕ) → k ≤ n → n ≤ k → x ≡ written s place v k → x ≡ written s place v n
-columns-end s x place v k n h l e = let q : k ≡ n = omega arith in e ∙ ap (written s place v) q
+pub column-more : (s x : Words) (place : ℕ) (columns : List ℕ) (row : Row) (k : ℕ) → place + length columns ≤ length s → k < length columns
+    → x ≡ written s place (pick columns row) k → set x (place + k) (at row (at columns k)) ≡ written s place (pick columns row) (k + 1)
+column-more s x place columns row k fits m inv =
+    ap (λ (v : ℕ). set x (place + k) v) (sym (picked columns row k m))
+    ∙ written_step s x place (pick columns row) k (omega arith) (omega (arith, length-map columns (at row))) inv
 
 -- Rows of the same columns
 wide-picks : (columns : List ℕ) (rows : Rows) → Wide (length columns) (map (pick columns) rows)
@@ -91,17 +87,17 @@ side-front s base t order j =
     ∙ length-append front rest in
     omega arith
 
-module _ {ws run : Words} {starts order : List ℕ} {t : ℕ} {columns : List ℕ} {part₀ : Words} (a : PartReady ws run starts order t columns part₀) where
+module _ {ws run : Words} {starts order : List ℕ} (b : Based ws run starts order) {t : ℕ} {columns : List ℕ} {part₀ : Words}
+    (a : PartReady ws run t columns part₀) where
   inside : t < (sheet_of ws).n
   inside = omega (arith, a.table, n-is ws)
 
   long : length (numbers_of run order t) ≡ at run t
-  long = order-long a.based a.table
+  long = order-long b a.table
 
   rows_all : (j : ℕ) → at run t ≤ j → rows_to ws run order t j ≡ side_of ws run t
   unfolding rows_to side_of
   rows_all j h =
-      let b = a.based in
       let l = a.table in
       side-all (sheet_of ws) (good_of ws b.laid.good) (tables_of ws run) t inside a.is-kept (numbers_of run order t) j
       (order_same b l) (order-up b l) (b.once t l) (omega (arith, long))
@@ -135,10 +131,7 @@ module _ {ws run : Words} {starts order : List ℕ} {t : ℕ} {columns : List �
 
   -- Row j in key order
   module _ (many : ℕ) (part : Words) (j i n : ℕ) (f : Front (rows_to ws run order t j) (length part₀) many part)
-      (h : j < at run t) (e : i ≡ at order (65535 * t + j)) (all : n ≡ table_count ws) where
-    number : i ≡ at (numbers_of run order t) j
-    number = e ∙ number_is a.based a.table j h
-
+      (h : j < at run t) (number : i ≡ at (numbers_of run order t) j) (all : n ≡ table_count ws) where
     decides : passes_no ws run false n t i
         ≡ passing (sheet_of ws) (tables_of ws run) false (sheet_of ws).n t (row_no (tables_of ws run) t (at (numbers_of run order t) j))
     decides =
@@ -167,11 +160,13 @@ module _ {ws run : Words} {starts order : List ℕ} {t : ℕ} {columns : List �
           let less : many < length (side_of ws run t) = omega (arith, more-long, rows_few (j + 1)) in
           omega (arith, mul-le-mul_right (length columns) less, a.room)
 
-      pub front-hit : (after : Words) → length after ≡ length part
-          → after ≡ written part (many * length columns) (side_row_no ws run t i) (length columns)
+      pub front-hit : {row : Row} → row ≡ row_no (tables_of ws run) t i → (after : Words) → length after ≡ length part
+          → after ≡ written part (many * length columns) (pick columns row) (length columns)
           → Front (rows_to ws run order t (j + 1)) (length part₀) (many + 1) after
       unfolding side_row_no
-      front-hit after k w =
+      front-hit is after k v =
+          let w : after ≡ written part (many * length columns) (side_row_no ws run t i) (length columns) =
+          v ∙ ap₂ (λ (cs : List ℕ) (r : Row). written part (many * length columns) (pick cs r) (length columns)) a.columns-are is in
           let rows = rows_to ws run order t j in
           let r = side_row_no ws run t i in
           let same = ap length a.columns-are in

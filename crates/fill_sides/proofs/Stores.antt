@@ -48,7 +48,7 @@ pub store-unkept : (ws run : Words) {p : Plan} → GoodPlan (sheet_of ws) p → 
 unfolding partly_of
 store-unkept ws run plan {t} l st e = rw (← partly-unkept (sheet_of ws) (tables_of ws run) t (omega (arith, n-is ws)) (unkept-here ws plan l e)) st
 
-module _ {ws run : Words} {starts order : List ℕ} {p : Plan} {t : ℕ} {store : Words} (a : SideReady ws run starts order p t store) where
+module _ {ws run : Words} {p : Plan} {t : ℕ} {store : Words} (a : SideReady ws run p t store) where
   inside : t < (sheet_of ws).n
   inside = omega (arith, a.table, n-is ws)
 
@@ -112,10 +112,9 @@ module _ {ws run : Words} {starts order : List ℕ} {p : Plan} {t : ℕ} {store 
     fits-size =
         mul-le-mul_right (columns (sheet_of ws) t) (leb-true (length (side_table (sheet_of ws) (tables_of ws run) t)) (room (sheet_of ws) t) a.fits)
 
-    pub part-ready : PartReady ws run starts order t lent_columns lent
+    pub part-ready : PartReady ws run t lent_columns lent
     part-ready =
         record {
-          based = a.based;
           table = a.table;
           is-kept = a.is-kept;
           columns-are = columns-lent;

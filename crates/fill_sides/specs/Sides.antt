@@ -2,20 +2,17 @@
 -- Assumes nothing.
 use Rattle.std.specs.Prelude.{ℕ, ◌*◌, ◌<◌, ◌≤◌, ◌≡◌, Bool, true, List, T, length, take, replicate}
 use Rattle.lists.specs.Lists.{Words}
-use Rattle.rows.specs.Rows.{Row, Rows, pick}
+use Rattle.rows.specs.Rows.{Rows}
 use Rattle.rows.specs.Regions.{laid}
-use Rattle.rows.specs.Words.{written}
 use Rattle.meaning.specs.Sheet.{sheet_of, table_count}
 use Rattle.meaning.specs.Plan.{kept, shown}
 use Rattle.meaning.specs.Meaning.{Model, side_table}
 use Rattle.places.specs.Stands.{Stands}
 use Rattle.sheet_plan.specs.declared.Plan.{Plan}
 use Rattle.store.specs.Plans.{GoodPlan}
-use Rattle.filling.specs.Runs.{row_no}
 use Rattle.filling.specs.Qualifies.{side_rows}
 use Rattle.filling.specs.Written.{partly, side_fits}
 use Rattle.base_run.specs.Bases.{tables_of, numbers_of}
-use Rattle.base_qualified.specs.Qualifying.{Based}
 
 -- table t's side table, and whether it has room
 unfoldable pub side_of : Words → Words → ℕ → Rows
@@ -32,21 +29,12 @@ partly_of ws run t = partly (sheet_of ws) (tables_of ws run) t
 abbrev pub SidesStand : Words → Words → ℕ → Words → Type 0
 SidesStand ws run t store = Stands (sheet_of ws) store (partly_of ws run t)
 
--- row i of table t as the side table shows it
-unfoldable pub side_row_no : Words → Words → ℕ → ℕ → Row
-side_row_no ws run t i = pick (shown (sheet_of ws) t) (row_no (tables_of ws run) t i)
-
--- the first k words of it written over a part's words from `place` on
-abbrev pub written_row : Words → Words → ℕ → ℕ → Words → ℕ → ℕ → Words
-written_row ws run t i part place k = written part place (side_row_no ws run t i) k
-
 -- the side rows of the qualified ones among the first j rows of table t in key order
 unfoldable pub rows_to : Words → Words → List ℕ → ℕ → ℕ → Rows
 rows_to ws run order t j = side_rows (sheet_of ws) (tables_of ws run) t (take j (numbers_of run order t))
 
 -- table t's side table can be written into a part that is all zeros: its rows have room there
-pub record PartReady (ws run : Words) (starts order : List ℕ) (t : ℕ) (columns : List ℕ) (part : Words) : Type 0 where
-  pub based : Based ws run starts order
+pub record PartReady (ws run : Words) (t : ℕ) (columns : List ℕ) (part : Words) : Type 0 where
   pub table : t < table_count ws
   pub is-kept : T (kept (sheet_of ws) t)
   pub columns-are : columns ≡ shown (sheet_of ws) t
@@ -54,8 +42,7 @@ pub record PartReady (ws run : Words) (starts order : List ℕ) (t : ℕ) (colum
   pub room : length (side_of ws run t) * length columns ≤ length part
 
 -- the same into its part of a store in which those of the tables before t stand
-pub record SideReady (ws run : Words) (starts order : List ℕ) (plan : Plan) (t : ℕ) (store : Words) : Type 0 where
-  pub based : Based ws run starts order
+pub record SideReady (ws run : Words) (plan : Plan) (t : ℕ) (store : Words) : Type 0 where
   pub planned : GoodPlan (sheet_of ws) plan
   pub table : t < table_count ws
   pub is-kept : T (kept (sheet_of ws) t)

@@ -2,7 +2,7 @@
 -- Assumes nothing.
 use Prim.Native.Nat.{ℕ, suc, ◌+◌, ◌*◌, ◌<◌, ◌≤◌}
 use mathlib.Core.Path.{◌≡◌, refl, sym, ap, ap₂, ◌∙◌}
-use mathlib.Core.Bool.{Bool, true, false, cond}
+use mathlib.Core.Bool.{Bool, true, false, cond, true≢false}
 use mathlib.Core.List.{List, [], ◌∷◌, ◌++◌}
 use native.Mathlib.Numerals.{add-one}
 use native.Mathlib.Omega.{arith}
@@ -12,9 +12,11 @@ use lib.Seq.{take_all, take-suc, take-suc-set, drop-cons}
 use borrow.Author.Tests.{eq-eqb, ne_eqb}
 use Rattle.lists.specs.Lists.{Words, at, flat}
 use Rattle.std.specs.declared.cmp.Ordering.{Ordering}
+use Rattle.std.specs.Ordering.{is_ne, nat_cmp, MatchOrdering}
+use Rattle.std.specs.Cmp.{ranks}
 use Rattle.std.specs.declared.cmp.Ordering.TheVariants.{Less, Equal, Greater}
 use Rattle.rows.specs.Rows.{Row, Rows, Wide, cut, word_order, then_by, row_order, smaller}
-use Rattle.rows.specs.Words.{row}
+use Rattle.rows.specs.Words.{row, written}
 use Rattle.rows.specs.Marks.{altered, is_marked, Numbers}
 use Rattle.rows.proofs.Ordered.{same→≡, word-less, word-greater, word-equal, less-smaller, greater-smaller, order-equal}
 use Rattle.rows.proofs.Cut.{wide-first, wide-rest, wide-cons, cut_at, cut-length, row-length, row_at, row_fits, flat-cut}
@@ -125,6 +127,11 @@ module _ (ws : Words) (t : ℕ) (r : Row) (i : ℕ) (s : Words) (fits : i * list
       let same : listed_count ws ≡ k = omega arith in
       ap (λ (n : ℕ). take n x) same ∙ e ∙ take_all k (row_with ws t r i s) (omega (arith, with-long))
 
+  -- the row, put where it stood
+  pub given-is : (p : ℕ) → p ≡ listed_count ws → (x y : Words) → take (listed_count ws) x ≡ row_with ws t r i s
+      → y ≡ written s (i * p) (take p x) (length (take p x)) → y ≡ row_given ws t r i s
+  given-is p many x y is e = e ∙ rw (many, is, with-long)
+
 -- How a row that shows old's values stands, with new's, to what it was
 order-turn : (ls : List Listed) (t : ℕ) (old new row : Row) → length row ≡ length ls → row ≡ with_columns ls t old row
     → row_order (with_columns ls t new row) row ≡ turn_of ls t old new
@@ -155,6 +162,15 @@ module _ (ws : Words) (t : ℕ) (old new row : Row) (wide : length row ≡ liste
   pub turn-none : Equal ≡ turn_of (sheet_of ws).listed t old new → gives ws t new row ≡ row
   turn-none e = order-equal (gives ws t new row) row (turned ∙ sym e)
 
+-- how std compares two words
+word-is : (x y : ℕ) → nat_cmp x y ≡ word_order x y
+word-is x y = go (nat_cmp x y) (ranks x y)
+  where
+    go : (o : Ordering) → MatchOrdering o (x < y) (x ≡ y) (y < x) → o ≡ word_order x y
+    go Less h = sym (word-less x y h)
+    go Equal h = sym (word-equal x y h)
+    go Greater h = sym (word-greater x y h)
+
 -- the loop that finds it: listed column k
 module _ (ws : Words) (t : ℕ) (old new : Row) (k : ℕ) (l : k < listed_count ws) (d : Listing) (reads : ReadsListing ws k d)
     (inv : turn_of (sheet_of ws).listed t old new ≡ turn_of (drop k (sheet_of ws).listed) t old new) where
@@ -173,23 +189,32 @@ module _ (ws : Words) (t : ℕ) (old new : Row) (k : ℕ) (l : k < listed_count 
   pub turn-other : (d.table ≡ t → ⊥) → turn_of (sheet_of ws).listed t old new ≡ turn_of (drop (k + 1) (sheet_of ws).listed) t old new
   turn-other n = step ∙ rw (ne_eqb d.table t n)
 
-  module _ (own : d.table ≡ t) where
-    here : turn_of (sheet_of ws).listed t old new
-        ≡ then_by (word_order (at new d.column) (at old d.column)) (turn_of (drop (k + 1) (sheet_of ws).listed) t old new)
-    here = step ∙ rw (eq-eqb d.table t own)
+  module _ (own : d.table ≡ t) (o : Ordering) (e : o ≡ nat_cmp (at new d.column) (at old d.column)) where
+    rest : Ordering
+    rest = turn_of (drop (k + 1) (sheet_of ws).listed) t old new
 
-    pub turn-less : at new d.column < at old d.column → Less ≡ turn_of (sheet_of ws).listed t old new
-    unfolding then_by
-    turn-less h = sym (here ∙ rw (word-less (at new d.column) (at old d.column) h))
+    here : turn_of (sheet_of ws).listed t old new ≡ then_by o rest
+    unfolding rest
+    here = step ∙ rw (eq-eqb d.table t own) (ap (λ (o : Ordering). then_by o rest) (sym (e ∙ word-is (at new d.column) (at old d.column))))
 
-    pub turn-greater : at old d.column < at new d.column → Greater ≡ turn_of (sheet_of ws).listed t old new
+    -- it decides, where the two values differ
+    pub turn-way : is_ne o ≡ true → o ≡ turn_of (sheet_of ws).listed t old new
     unfolding then_by
-    turn-greater h = sym (here ∙ rw (word-greater (at new d.column) (at old d.column) h))
+    turn-way d = decides o d ∙ sym here
+      where
+        decides : (o : Ordering) → is_ne o ≡ true → o ≡ then_by o rest
+        decides Less d = refl
+        decides Equal d = absurd (true≢false (sym d))
+        decides Greater d = refl
 
-    pub turn-same : at old d.column ≤ at new d.column → at new d.column ≤ at old d.column
-        → turn_of (sheet_of ws).listed t old new ≡ turn_of (drop (k + 1) (sheet_of ws).listed) t old new
-    unfolding then_by
-    turn-same a b = here ∙ rw (word-equal (at new d.column) (at old d.column) (omega arith))
+    pub turn-same : is_ne o ≡ false → turn_of (sheet_of ws).listed t old new ≡ turn_of (drop (k + 1) (sheet_of ws).listed) t old new
+    unfolding rest then_by
+    turn-same d = here ∙ goes_on o d
+      where
+        goes_on : (o : Ordering) → is_ne o ≡ false → then_by o rest ≡ rest
+        goes_on Less d = absurd (true≢false d)
+        goes_on Equal d = refl
+        goes_on Greater d = absurd (true≢false d)
 
 pub turn_end : (ws : Words) (t : ℕ) (old new : Row) (k : ℕ) → listed_count ws ≤ k
     → turn_of (sheet_of ws).listed t old new ≡ turn_of (drop k (sheet_of ws).listed) t old new → Equal ≡ turn_of (sheet_of ws).listed t old new

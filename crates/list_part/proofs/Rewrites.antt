@@ -21,7 +21,7 @@ use Rattle.rows.proofs.Sorted.{rising_none, rising-sorted}
 use Rattle.places.proofs.Laid.{laid-long, laid_more, laid-zeros, laid-cut}
 use Rattle.places.proofs.Splices.{length-splice, part-splice, take-splice}
 use Rattle.store.specs.declared.Part.{Part}
-use Rattle.store.proofs.Parts.{part-long, wrote, wrote-anew}
+use Rattle.store.proofs.Parts.{part-long, lent-words, wrote, wrote-anew}
 use Rattle.store.specs.Parts.{size_of, stop_of, words_in, count_in, rows_in, Within, Kept, with_rows, Wrote}
 use Rattle.list_part.specs.Loose.{row_put, Loose, loose_rows, Standing, Behind}
 
@@ -191,17 +191,22 @@ module _ (p : Part) (ws : Words) (win : Within p ws) where
   rows-room k l = omega (arith, part-long p ws win, mul-le-mul_right p.columns l)
 
 -- rows put in order: what stands in the part then
-pub settled : (p : Part) (count : ℕ) (ws x : Words) → Loose p count ws → length x ≡ length (words_in p ws)
-    → cut p.columns count x ≡ sorted (cut p.columns count (words_in p ws)) → drop (count * p.columns) x ≡ drop (count * p.columns) (words_in p ws)
-    → Wrote p (sorted (loose_rows p count ws)) ws (set (put_mid p.start (stop_of p - p.start) ws x) p.slot count)
+pub settled : (p : Part) (count : ℕ) (ws x : Words) → Loose p count ws → {e : ℕ} → e ≡ stop_of p
+    → let lent = take (e - p.start) (drop p.start ws) in
+    length x ≡ length lent → cut p.columns count x ≡ sorted (cut p.columns count lent) → drop (count * p.columns) x ≡ drop (count * p.columns) lent
+    → Wrote p (sorted (loose_rows p count ws)) ws (set (put_mid p.start (e - p.start) ws x) p.slot count)
 unfolding loose_rows
-settled p count ws x lo e rows above =
+settled p count ws x lo end long are behind =
+    let same = lent-words p ws end in
+    let e = long ∙ ap length same in
+    let rows = are ∙ ap (λ (l : Words). sorted (cut p.columns count l)) same in
+    let above = behind ∙ ap (drop (count * p.columns)) same in
     let all-rows = sorted (cut p.columns count (words_in p ws)) in
-    wrote p ws lo.within all-rows count x
+    rw end (wrote p ws lo.within all-rows count x
     (holds p.columns count all-rows x rows
     (record {
       fits = omega (arith, rows-room p ws lo.within count lo.fits);
       up = subst (λ (l : Rows). T (rising l)) (sym rows) (rising-sorted (cut p.columns count (words_in p ws)));
       zeros = subst (λ (l : Words). T (all (eqb 0) l)) (sym above) lo.zeros;
     }))
-    e
+    e)

@@ -1,24 +1,23 @@
 -- A row with one table's columns given, word by word.
 -- Assumes nothing.
 use Prim.Native.Nat.{ℕ, zero, suc, ◌+◌, ◌*◌, ◌<◌, ◌≤◌}
-use mathlib.Core.Path.{◌≡◌, refl, sym, ap, ap₂, ◌∙◌}
-use mathlib.Core.Bool.{true, false, cond}
-use mathlib.Core.List.{List, [], ◌∷◌, ◌++◌}
-use native.Mathlib.Nat.{add-zero, le_antisymm, le_of_suc-le-suc, not-suc-le-zero}
+use mathlib.Core.Path.{◌≡◌, refl, sym, ap, ◌∙◌}
+use mathlib.Core.Bool.{cond}
+use mathlib.Core.List.{List, [], ◌∷◌}
+use native.Mathlib.Nat.{le_of_suc-le-suc, not-suc-le-zero}
 use native.Mathlib.Omega.{arith}
 use lib.Dec.{eqb}
-use lib.ListN.{length, get_or, take, drop, set, length-append}
-use lib.Seq.{ext_get_or, set-get_or, length-take-le, get_or-append-add, get_or-drop}
+use lib.ListN.{length, get_or}
+use lib.Seq.{ext_get_or}
 use borrow.Author.Tests.{eqb-true, eq-eqb, ne_eqb}
 use Rattle.lists.specs.Lists.{Words, at}
 use Rattle.lists.specs.Loops.{every}
-use Rattle.lists.proofs.Truth.{T→≡, F→≡}
-use Rattle.lists.proofs.Loops.{every-at, every-end}
+use Rattle.lists.proofs.Truth.{is_t, T→≡, same_test}
+use Rattle.lists.proofs.Loops.{every-at, every-from}
 use Rattle.rows.specs.Rows.{Row, same_row}
-use Rattle.rows.specs.Words.{row, written}
+use Rattle.rows.specs.Words.{row}
 use Rattle.rows.proofs.Ordered.{same→≡, ≡→same}
 use Rattle.rows.proofs.Cut.{row-length, row_at}
-use Rattle.rows.proofs.Moves.{written_step}
 use Rattle.meaning.specs.Sheet.{Listed, sheet_of, listed_count}
 use Rattle.meaning.specs.Change.{with_columns}
 use Rattle.laws.proofs.Lists.{at-up_to, length-up_to}
@@ -28,7 +27,7 @@ use Rattle.sheet.specs.Read.{ReadsListing}
 use Rattle.sheet.specs.Rules.{Rules}
 use Rattle.sheet.specs.declared.reading.Listing.{Listing}
 use Rattle.sheet.proofs.Words.{listed-are}
-use Rattle.list_part.specs.Gives.{gives, shows, shows_word, row_shows, row_given, Fits}
+use Rattle.list_part.specs.Gives.{gives, shows, row_shows, row_with, Fits}
 
 -- a listed column of r's table is one of r's
 pub column-in : (ws : Words) (t : ℕ) (r : Row) (p j : ℕ) (l : Listing) → Rules ws → Fits ws t r → p ≡ listed_count ws → j < p → ReadsListing ws j l
@@ -69,90 +68,32 @@ module _ (ws : Words) (t : ℕ) (r row : Row) (wide : length row ≡ listed_coun
     pub gives_other : (l.table ≡ t → ⊥) → at (gives ws t r row) j ≡ at row j
     gives_other d = gives_at j h ∙ rw (← reads.table_is, ne_eqb l.table t d)
 
--- it is within n words if a row of q words is, and p is q
-pub row_in : (i p q n : ℕ) → p ≡ q → i * q + q ≤ n → i * p + p ≤ n
-row_in i p q n e fits = rw e fits
-
--- Row i of a run of words, where p listed columns were counted
-module _ (ws : Words) (t : ℕ) (r : Row) (s : Words) (i p : ℕ) (many : p ≡ listed_count ws) (fits : i * p + p ≤ length s) where
+-- Row i of a run of words shows r's values where each of its words is the one that it would be given
+module _ (ws : Words) (t : ℕ) (r : Row) (s : Words) (i p : ℕ) (many : p ≡ listed_count ws) (fits : i * listed_count ws + listed_count ws ≤ length s) where
   here : Row
-  here = row p i s
+  here = row (listed_count ws) i s
 
-  here-long : length here ≡ p
+  here-long : length here ≡ listed_count ws
   unfolding here
-  here-long = row-length p i s fits
+  here-long = row-length (listed_count ws) i s fits
 
-  here-at : (j : ℕ) → j < p → at here j ≡ at s (i * p + j)
+  here-at : (j : ℕ) → j < listed_count ws → at s (i * listed_count ws + j) ≡ at here j
   unfolding here
-  here-at j h = row_at p i s j h
+  here-at j h = sym (row_at (listed_count ws) i s j h)
 
-  -- the row given
   gave : Row
   gave = gives ws t r here
 
-  gave-long : length gave ≡ p
+  gave-long : length gave ≡ listed_count ws
   unfolding gave
-  gave-long = gives-length ws t r here (here-long ∙ many) ∙ sym many
+  gave-long = gives-length ws t r here here-long
 
-  module _ (j : ℕ) (within : j < p) (l : Listing) (reads : ReadsListing ws j l) where
-    gave-own : l.table ≡ t → at gave j ≡ at r l.column
-    unfolding gave
-    gave-own = gives-own ws t r here (here-long ∙ many) j (rw many at within) l reads
-
-    gave-other : (l.table ≡ t → ⊥) → at gave j ≡ at here j
-    unfolding gave
-    gave-other = gives_other ws t r here (here-long ∙ many) j (rw many at within) l reads
-
-    pub shows-own : l.table ≡ t → at s (i * p + j) ≡ at r l.column → shows_word ws t r (row p i s) j ≡ true
-    unfolding shows_word here gave
-    shows-own e v = eq-eqb _ _ (here-at j within ∙ v ∙ sym (gave-own e))
-
-    pub shows-other : (l.table ≡ t → ⊥) → shows_word ws t r (row p i s) j ≡ true
-    unfolding shows_word here gave
-    shows-other d = eq-eqb _ _ (sym (gave-other d))
-
-    pub shows-not : l.table ≡ t → (at s (i * p + j) ≡ at r l.column → ⊥) → false ≡ row_shows ws t r i s
-    unfolding shows here gave
-    shows-not e d =
-        rw (← many)
-        (sym (F→≡ (same_row here gave) (λ h. d (sym (here-at j within) ∙ ap (λ (x : Row). at x j) (same→≡ here gave h) ∙ gave-own e))))
-
-    -- one word more of it given: r's value, or its own
-    module _ (x : Words) (inv : x ≡ written s (i * p) (gives ws t r (row p i s)) j) where
-      step : (v : ℕ) → at gave j ≡ v → set x (i * p + j) v ≡ written s (i * p) (gives ws t r (row p i s)) (j + 1)
-      unfolding here gave
-      step v e =
-          ap (set x (i * p + j)) (sym e) ∙ written_step s x (i * p) gave j (omega arith) (omega (arith, gave-long)) inv
-
-      pub give-own : l.table ≡ t → set x (i * p + j) (at r l.column) ≡ written s (i * p) (gives ws t r (row p i s)) (j + 1)
-      give-own e = step (at r l.column) (gave-own e)
-
-      pub give-other : (l.table ≡ t → ⊥) → x ≡ written s (i * p) (gives ws t r (row p i s)) (j + 1)
-      unfolding here gave written
-      give-other d = sym (set-get_or x (i * p + j) 0) ∙ step (at x (i * p + j)) (gave-other d ∙ here-at j within ∙ sym still)
-        where
-          front : Words
-          front = take (i * p) s ++ take j gave
-
-          front_long : length front ≡ i * p + j
-          front_long =
-              length-append (take (i * p) s) (take j gave)
-              ∙ ap₂ ◌+◌ (length-take-le (i * p) s (omega arith)) (length-take-le j gave (omega (arith, gave-long)))
-
-          still : at x (i * p + j) ≡ at s (i * p + j)
-          still =
-              let m = i * p + j in
-              let e : m ≡ length front + 0 = omega (arith, front_long) in
-              rw inv (ap (at (front ++ drop m s)) e ∙ get_or-append-add front (drop m s) 0 0 ∙ get_or-drop m s 0 0 ∙ ap (at s) (add-zero m))
-
-  -- all words are looked at
-  pub shows-end : (k : ℕ) → k ≤ p → p ≤ k → every (shows_word ws t r (row p i s)) k ≡ true → true ≡ row_shows ws t r i s
-  unfolding shows shows_word here gave
-  shows-end k a b h =
-      let all = every-end _ k p a b h in
-      rw (← many)
-      (sym (T→≡ (same_row here gave) (≡→same here gave
-      (ext_get_or 0 here gave (here-long ∙ sym gave-long) (λ j q. eqb-true _ _ (every-at _ j p (omega (arith, here-long)) all))))))
-
-  pub give-end : (x : Words) (k : ℕ) → k ≤ p → p ≤ k → x ≡ written s (i * p) (gives ws t r (row p i s)) k → x ≡ row_given ws t r i s
-  give-end x k a b h = h ∙ rw (le_antisymm a b, many)
+  pub shows-each : every (λ k. eqb (at s (i * p + k)) (at (row_with ws t r i s) k)) p ≡ row_shows ws t r i s
+  unfolding shows here gave
+  shows-each =
+      rw many
+      (same_test _ (same_row here gave)
+      (λ h. ≡→same here gave
+      (ext_get_or 0 here gave (here-long ∙ sym gave-long) (λ j l. sym (here-at j (omega (arith, here-long)))
+      ∙ eqb-true _ _ (every-at _ j (listed_count ws) (omega (arith, here-long)) (T→≡ _ h)))))
+      (λ h. is_t (every-from _ (listed_count ws) (λ j l. eq-eqb _ _ (here-at j l ∙ ap (λ (x : Row). at x j) (same→≡ here gave h))))))

@@ -1,6 +1,6 @@
 -- A list row with one table's columns from another row, read from the sheet's words, whether it shows them already, and which way it then moves.
 -- Assumes nothing.
-use Rattle.std.specs.Prelude.{ℕ, ◌*◌, ◌<◌, ◌≡◌, Bool, true, cond, List, [], ◌∷◌, ◌++◌, T, eqb, length, get_or, drop}
+use Rattle.std.specs.Prelude.{ℕ, ◌*◌, ◌<◌, ◌≡◌, Bool, true, false, cond, List, [], ◌∷◌, ◌++◌, T, eqb, length, get_or, drop}
 use Rattle.lists.specs.Lists.{Words, at, flat}
 use Rattle.std.specs.declared.cmp.Ordering.{Ordering}
 use Rattle.std.specs.declared.cmp.Ordering.TheVariants.{Equal}
@@ -18,10 +18,6 @@ gives ws t r row = with_columns (sheet_of ws).listed t r row
 -- it shows them
 unfoldable pub shows : Words → ℕ → Row → Row → Bool
 shows ws t r row = same_row row (gives ws t r row)
-
--- its word j does
-unfoldable pub shows_word : Words → ℕ → Row → Row → ℕ → Bool
-shows_word ws t r row j = eqb (at row j) (at (gives ws t r row) j)
 
 -- row i of a run of words shows them, that row given, and the words with it given
 abbrev pub row_shows : Words → ℕ → Row → ℕ → Words → Bool
@@ -47,12 +43,20 @@ turn_of (l ∷ ls) t old new =
 pub record AllShow (ws : Words) (t : ℕ) (r : Row) (numbers : Words) (rows : Rows) : Type 0 where
   pub each : (j : ℕ) → j < length numbers → T (shows ws t r (get_or rows (at numbers j) []))
 
--- they become greater, or smaller, by r's values
-pub record Upward (ws : Words) (t : ℕ) (r : Row) (numbers : Words) (rows : Rows) : Type 0 where
-  pub each : (j : ℕ) → j < length numbers → smaller (get_or rows (at numbers j) []) (gives ws t r (get_or rows (at numbers j) [])) ≡ true
+-- a row becomes greater (up), or smaller, where another stands for it
+abbrev pub goes : Bool → Row → Row → Bool
+goes up row new = cond up (smaller row new) (smaller new row)
 
-pub record Downward (ws : Words) (t : ℕ) (r : Row) (numbers : Words) (rows : Rows) : Type 0 where
-  pub each : (j : ℕ) → j < length numbers → smaller (gives ws t r (get_or rows (at numbers j) [])) (get_or rows (at numbers j) []) ≡ true
+-- they all do, by r's values
+pub record AllGo (ws : Words) (t : ℕ) (r : Row) (up : Bool) (numbers : Words) (rows : Rows) : Type 0 where
+  pub each : (j : ℕ) → j < length numbers → goes up (get_or rows (at numbers j) []) (gives ws t r (get_or rows (at numbers j) [])) ≡ true
+
+-- upward, and downward
+abbrev pub Upward : Words → ℕ → Row → Words → Rows → Type 0
+Upward ws t r = AllGo ws t r true
+
+abbrev pub Downward : Words → ℕ → Row → Words → Rows → Type 0
+Downward ws t r = AllGo ws t r false
 
 -- r is a row for table t
 pub record Fits (ws : Words) (t : ℕ) (r : Row) : Type 0 where

@@ -1,4 +1,5 @@
 pub mod Gives
+pub mod Fitting
 pub mod Loose
 pub mod Ways
 pub mod Replaces

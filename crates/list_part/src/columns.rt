@@ -2,12 +2,91 @@
 ghost use Rattle.std.specs.Prelude.{◌≡◌, ℕ, ◌+◌, ◌*◌, ◌<◌, ◌≤◌, length, take};
 ghost use Rattle.lists.specs.Lists.{at};
 ghost use Rattle.rows.specs.Marks.{Numbers};
-ghost use Rattle.meaning.specs.Sheet.{sheet_of, listed_count};
+ghost use Rattle.meaning.specs.Sheet.{listed_count};
 ghost use Rattle.sheet.specs.Rules.{Rules};
-ghost use Rattle.list_part.specs.Gives.{row_shows, row_with, row_given, given, turn_of, Fits};
+ghost use Rattle.list_part.specs.Fitting.{FitValues, width_of, with_row, given_one, given_at, turn_from};
+ghost use Rattle.list_part.specs.Gives.{row_shows, Fits};
 
 use sheet::LISTED;
 use std::cmp::Ordering;
+
+// A row's values for one table's columns of the list's rows.
+#[derive(Clone, Copy)]
+pub struct Values<'a> {
+    pub sheet: &'a [u64],
+    pub table: usize,
+    pub row: &'a [u64],
+}
+
+impl Values<'_> {
+    // Word k of row i of s with these values.
+    fn word(self, s: &[u64], i: usize, k: usize) -> u64
+        requires fit { FitValues self }
+        requires s_in_bounds { i * width_of self + width_of self ≤ length s.now }
+        requires k_bound { k < width_of self }
+        ensures { result ≡ at (with_row self.entry i s.now) k }
+    {
+        let l = sheet::listing_no(self.sheet, k);
+        if l.table == self.table {
+            return self.row[l.column];
+        }
+        s[i * sheet::listed(self.sheet) + k]
+    }
+
+    // Row i of s with these values, and zeros behind it.
+    pub fn given_row(self, s: &[u64], i: usize) -> [u64; LISTED]
+        requires fit { FitValues self }
+        requires s_in_bounds { i * width_of self + width_of self ≤ length s.now }
+        ensures { take (width_of self.entry) result ≡ with_row self.entry i s.now }
+    {
+        let mut row = [0u64; LISTED];
+        for k in 0..sheet::listed(self.sheet) {
+            row[k] = self.word(s, i, k);
+        }
+        row
+    }
+
+    // Row i of s gets these values.
+    fn give_row(self, s: &mut [u64], i: usize)
+        requires fit { FitValues self }
+        requires s_in_bounds { i * width_of self + width_of self ≤ length s.old }
+        ensures { s.new ≡ given_one self.entry i s.old }
+    {
+        let p = sheet::listed(self.sheet);
+        let row = self.given_row(s, i);
+        rows::write_over(s, i * p, &row[..p]);
+    }
+
+    // The rows of the first count rows at these numbers get these values.
+    pub fn give_marked(self, s: &mut [u64], count: usize, numbers: &[u16])
+        requires fit { FitValues self }
+        requires s_in_bounds { count * width_of self ≤ length s.old }
+        requires numbers { Numbers count numbers.now }
+        ensures { s.new ≡ given_at self.entry numbers.now count s.old }
+    {
+        for &i in numbers {
+            self.give_row(s, i as usize);
+        }
+    }
+
+    // How a list row that shows old's values stands, with these there, to what it was: all such rows alike.
+    pub fn turn(self, old: &[u64]) -> Ordering
+        requires fit { FitValues self }
+        requires fits { Fits self.sheet.now self.table old.now }
+        ensures { result ≡ turn_from self.entry old.now }
+    {
+        for k in 0..sheet::listed(self.sheet) {
+            let l = sheet::listing_no(self.sheet, k);
+            if l.table == self.table {
+                let order = self.row[l.column].cmp(&old[l.column]);
+                if order.is_ne() {
+                    return order;
+                }
+            }
+        }
+        Ordering::Equal
+    }
+}
 
 // Whether row i of s shows r's values in table t's columns.
 pub fn shows_row(sheet: &[u64], s: &[u64], i: usize, t: usize, r: &[u64]) -> bool
@@ -16,116 +95,11 @@ pub fn shows_row(sheet: &[u64], s: &[u64], i: usize, t: usize, r: &[u64]) -> boo
     requires sheet_in_bounds { i * listed_count sheet.now + listed_count sheet.now ≤ length s.now }
     ensures { result ≡ row_shows sheet.now t r.now i s.now }
 {
+    let values = Values {
+        sheet,
+        table: t,
+        row: r,
+    };
     let p = sheet::listed(sheet);
-    let base = i * p;
-    let mut k = 0;
-    while k < p {
-        let j = k;
-        k += 1;
-        let l = sheet::listing_no(sheet, j);
-        if l.table == t {
-            let c = l.column;
-            if s[base + j] != r[c] {
-                return false;
-            }
-        }
-    }
-    true
-}
-
-// Row i of s gets r's values in table t's columns.
-pub fn give_row(sheet: &[u64], s: &mut [u64], i: usize, t: usize, r: &[u64])
-    requires rules { Rules sheet.now }
-    requires fits { Fits sheet.now t r.now }
-    requires sheet_in_bounds { i * listed_count sheet.now + listed_count sheet.now ≤ length s.old }
-    ensures { s.new ≡ row_given sheet.now t r.now i s.old }
-{
-    let p = sheet::listed(sheet);
-    let base = i * p;
-    let mut k = 0;
-    while k < p {
-        let j = k;
-        k += 1;
-        let l = sheet::listing_no(sheet, j);
-        if l.table == t {
-            let c = l.column;
-            s[base + j] = r[c];
-        }
-    }
-}
-
-// Word k of row i of s with r's values in table t's columns.
-fn given_word(sheet: &[u64], s: &[u64], i: usize, k: usize, t: usize, r: &[u64]) -> u64
-    requires rules { Rules sheet.now }
-    requires fits { Fits sheet.now t r.now }
-    requires sheet_in_bounds { i * listed_count sheet.now + listed_count sheet.now ≤ length s.now }
-    requires k_bound { k < listed_count sheet.now }
-    ensures { result ≡ at (row_with sheet.now t r.now i s.now) k }
-{
-    let l = sheet::listing_no(sheet, k);
-    if l.table == t {
-        let c = l.column;
-        return r[c];
-    }
-    s[i * sheet::listed(sheet) + k]
-}
-
-// Row i of s with r's values in table t's columns, and zeros behind it.
-pub fn given_row(sheet: &[u64], s: &[u64], i: usize, t: usize, r: &[u64]) -> [u64; LISTED]
-    requires rules { Rules sheet.now }
-    requires fits { Fits sheet.now t r.now }
-    requires sheet_in_bounds { i * listed_count sheet.now + listed_count sheet.now ≤ length s.now }
-    ensures { take (listed_count sheet.now) result ≡ row_with sheet.now t r.now i s.now }
-{
-    let p = sheet::listed(sheet);
-    let mut row = [0u64; LISTED];
-    let mut k = 0;
-    while k < p {
-        row[k] = given_word(sheet, s, i, k, t, r);
-        k += 1;
-    }
-    row
-}
-
-// The rows of the first count rows at these numbers get r's values in table t's columns.
-pub fn give_marked(sheet: &[u64], s: &mut [u64], count: usize, numbers: &[u16], t: usize, r: &[u64])
-    requires rules { Rules sheet.now }
-    requires fits { Fits sheet.now t r.now }
-    requires sheet_in_bounds { count * listed_count sheet.now ≤ length s.old }
-    requires numbers { Numbers count numbers.now }
-    ensures { s.new ≡ given sheet.now t r.now numbers.now count s.old }
-{
-    let mut j = 0;
-    while j < numbers.len() {
-        let i = numbers[j] as usize;
-        give_row(sheet, s, i, t, r);
-        j += 1;
-    }
-}
-
-// How a list row that shows old's values in table t's columns stands, with new's there, to what it was: all such rows alike.
-pub fn turn(sheet: &[u64], t: usize, old: &[u64], new: &[u64]) -> Ordering
-    requires rules { Rules sheet.now }
-    requires fits { Fits sheet.now t old.now }
-    requires fits_2 { Fits sheet.now t new.now }
-    ensures { result ≡ turn_of (sheet_of sheet.now).listed t old.now new.now }
-{
-    let p = sheet::listed(sheet);
-    let mut k = 0;
-    while k < p {
-        let l = sheet::listing_no(sheet, k);
-        k += 1;
-        if l.table == t {
-            let c = l.column;
-            let a = new[c];
-            let b = old[c];
-            if a < b {
-                return Ordering::Less;
-            }
-            if b < a {
-                return Ordering::Greater;
-            }
-        }
-    }
-    Ordering::Equal
+    (0..p).all(|k| s[i * p + k] == values.word(s, i, k))
 }

@@ -3,14 +3,11 @@ ghost use Rattle.std.specs.Prelude.{◌≡◌, ℕ, ◌<◌, ◌≤◌, length};
 ghost use Rattle.rows.specs.Rows.{sorted};
 ghost use Rattle.rows.specs.Marks.{Numbers};
 ghost use Rattle.meaning.specs.Limits.{most_listed};
-ghost use Rattle.meaning.specs.Sheet.{listed_count};
-ghost use Rattle.sheet.specs.Rules.{Rules};
 ghost use Rattle.store.specs.Parts.{count_in, Within, Kept, Wrote};
-ghost use Rattle.list_part.specs.Gives.{Fits};
+ghost use Rattle.list_part.specs.Fitting.{FitValues, width_of};
 ghost use Rattle.list_part.specs.Loose.{row_put, rows_cleared, rows_given, Loose, loose_rows, Standing};
 
-use crate::columns::give_marked;
-use sheet::LISTED;
+use crate::columns::Values;
 use store::Part;
 
 // r becomes row k of the part; its count stays.
@@ -20,44 +17,28 @@ pub fn put_behind(store: &mut [u64], p: Part, k: usize, r: &[u64])
     requires r_len { length r.now ≡ p.columns }
     ensures { store.new ≡ row_put p store.old k r.now }
 {
-    let from = p.start;
-    let w = p.columns;
-    let to = from + p.room * w;
-    let place = k * w;
-    rows::write_over(&mut store[from..to], place, r);
+    rows::write_over(&mut store[p.start..p.end()], k * p.columns, r);
 }
 
 // The rows of the part from row `first` on are zero again; its count stays.
 pub fn clear_rows(store: &mut [u64], p: Part, first: usize)
     requires within { Within p store.old }
-    requires columns_le_most_listed { p.columns ≤ most_listed }
     requires first_le_room { first ≤ p.room }
     ensures { store.new ≡ rows_cleared p store.old first }
 {
-    let w = p.columns;
-    let zero = [0u64; LISTED];
-    let mut k = p.room;
-    while first < k {
-        k -= 1;
-        put_behind(store, p, k, &zero[..w]);
-    }
+    store[p.start + first * p.columns..p.end()].fill(0);
 }
 
-// The part's rows at these numbers get r's values in table t's columns, where they stand.
-pub fn give_rows(sheet: &[u64], store: &mut [u64], p: Part, numbers: &[u16], t: usize, r: &[u64])
-    requires rules { Rules sheet.now }
-    requires fits { Fits sheet.now t r.now }
+// The part's rows at these numbers get these values, where they stand.
+pub fn give_rows(values: Values, store: &mut [u64], p: Part, numbers: &[u16])
+    requires fit { FitValues values }
     requires kept { Kept p store.old }
-    requires columns_value { p.columns ≡ listed_count sheet.now }
+    requires columns_value { p.columns ≡ width_of values }
     requires numbers { Numbers (count_in p store.old) numbers.now }
-    ensures { store.new ≡ rows_given sheet.now t r.now numbers.now p store.old }
+    ensures { store.new ≡ rows_given values.entry.sheet.now values.entry.table values.entry.row.now numbers.now p store.old }
 {
-    let slot = p.slot;
-    let from = p.start;
-    let w = p.columns;
-    let to = from + p.room * w;
-    let count = store[slot] as usize;
-    give_marked(sheet, &mut store[from..to], count, numbers, t, r);
+    let count = p.count(store);
+    values.give_marked(&mut store[p.start..p.end()], count, numbers);
 }
 
 // The first count rows of the part, of which the first `stand` rise, are put in order and are its rows from then on.
@@ -68,10 +49,6 @@ pub fn settle_rows(store: &mut [u64], p: Part, stand: usize, count: usize)
     requires standing { Standing p stand count store.old }
     ensures { Wrote p (sorted (loose_rows p count store.old)) store.old store.new }
 {
-    let slot = p.slot;
-    let from = p.start;
-    let w = p.columns;
-    let to = from + p.room * w;
-    sorting::settle(&mut store[from..to], w, stand, count);
-    store[slot] = count as u64;
+    sorting::settle(&mut store[p.start..p.end()], p.columns, stand, count);
+    store[p.slot] = count as u64;
 }

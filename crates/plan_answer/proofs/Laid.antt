@@ -1,7 +1,7 @@
 -- The arrays that the check hands out, laid out as an answer, are document 01's plan laid out.
 -- Assumes nothing.
 use Prim.Native.Nat.{ℕ, zero, suc, ◌/◌, ◌%◌, ◌<◌, ◌≤◌}
-use mathlib.Core.Path.{◌≡◌, refl, sym, ap, ap₂, subst, ◌∙◌}
+use mathlib.Core.Path.{◌≡◌, refl, sym, ap, ap₂, ◌∙◌}
 use mathlib.Core.Bool.{Bool, true, false, cond, not, ◌&&◌}
 use mathlib.Core.List.{List, [], ◌∷◌}
 use mathlib.Core.Logic.{inl, inr}
@@ -18,7 +18,7 @@ use Rattle.lists.proofs.Truth.{is_t, F→≡, same_test, mem-select, up_to-mem, 
 use Rattle.lists.proofs.Loops.{get_or-filled}
 use Rattle.lists.proofs.Places.{length_from, get_or-map-from}
 use Rattle.meaning.specs.Sheet.{Sheet, sheet_of, sheet_refusal, width, has_column}
-use Rattle.meaning.specs.Plan.{TablePlan, root, edge_into, others, dep, need, need_in, key_listed, kept, is_shown, shown, table_plan, good_plan, in_order, plan}
+use Rattle.meaning.specs.Plan.{TablePlan, root, edge_into, others, dep, need, need_in, key_listed, kept, is_shown, shown, table_plan, good_plan, no_plan, in_order, plan}
 use Rattle.laws.specs.Sheets as Sheets
 use Rattle.laws.proofs.Sheets as SheetLaws
 use Rattle.laws.proofs.Trees.{child-of}
@@ -28,15 +28,15 @@ use Rattle.sheet_plan.specs.Plans.{kept_of, kept_at, shows_at, shows_of, starts_
 use Rattle.sheet_plan.specs.Planned.{Lengths, IsPlan}
 use Rattle.sheet_plan.proofs.Chosen.{filled-same}
 use Rattle.sheet_plan.proofs.Shown.{has-column}
-use Rattle.sheet_plan.proofs.Planning.{plan-facts, good-plan, planned}
-use Rattle.sheet.specs.Tree.{GoodSheet}
-use Rattle.sheet.proofs.Good.{good-sheet, good-rules, good-zero, refused-is}
-use Rattle.sheet.specs.Verdicts.{verdict_of}
-use Rattle.sheet.specs.declared.Verdict.TheVariants.{Good, Refused}
-use Rattle.sheet_plan.specs.declared.Checked.{Checked}
+use Rattle.sheet_plan.proofs.Planning.{plan-facts, checked-zero, checked-is, checked-plan, planned}
+use Rattle.std.specs.Prelude.{Result, Ok, Err}
+use Rattle.sheet.proofs.Good.{good-sheet, good-rules}
+use Rattle.sheet.specs.declared.refusal.Refusal.{Refusal}
+use Rattle.sheet.specs.Refusals.{refusal_number, number_of}
+use Rattle.sheet.proofs.Refusals.{never-zero, of-number}
 use Rattle.sheet_plan.specs.declared.Plan.{Plan}
-use Rattle.plan_answer.specs.Answers.{no_table, table_no, sets_of, per_table, answer_of, dep_at, dep_of, need_at, need_of}
-use Rattle.plan_answer.specs.Answers.{kept_column, kept_columns, first_parts, answer_for, refused_answer}
+use Rattle.plan_answer.specs.Answers.{no_table, table_no, sets_of, per_table, laid_out, answer_of, dep_at, dep_of, need_at, need_of}
+use Rattle.plan_answer.specs.Answers.{kept_column, kept_columns, first_parts, answer_for}
 use Rattle.plan_answer.specs.declared.PlanAnswer.{PlanAnswer}
 
 pub filled-past : (f : ℕ → ℕ) (n i z : ℕ) (d : List ℕ) → n ≤ i → get_or (filled f n d) i z ≡ get_or d i z
@@ -156,8 +156,8 @@ module _ (s : Sheet) (facts : IsPlan s (plan_for s)) (good : Sheets.Good s) wher
   unfolding first_parts plan_for table_plan
   rooms-laid = numbers-laid (λ t. get_or (rooms_of s) t 0) (λ p. p.room) (λ t l. facts.rooms-at t (omega arith))
 
-  pub plan-laid : ((t c : ℕ) → has_column s t c ≡ ltb c (width s t)) → answer_for (plan_for s) (dep_of s) (need_of s) ≡ answer_of (good_plan s)
-  unfolding answer_for plan_for answer_of good_plan
+  pub plan-laid : ((t c : ℕ) → has_column s t c ≡ ltb c (width s t)) → answer_for (plan_for s) (dep_of s) (need_of s) ≡ laid_out (good_plan s)
+  unfolding answer_for plan_for laid_out good_plan
   plan-laid has =
       let a = columns-laid has in
       let b = dep-laid in
@@ -169,39 +169,48 @@ module _ (s : Sheet) (facts : IsPlan s (plan_for s)) (good : Sheets.Good s) wher
       cc
 
 -- the two outcomes of the plan call
-pub answer-good : (ws : Words) → sheet_refusal ws ≡ 0 → answer_for (checked_of ws).plan (dep_of (sheet_of ws)) (need_of (sheet_of ws)) ≡ answer_of (plan ws)
-unfolding plan
-answer-good ws h =
-    ap (λ (p : Plan). answer_for p (dep_of (sheet_of ws)) (need_of (sheet_of ws))) (good-plan ws h)
-    ∙ plan-laid (sheet_of ws) (plan-facts ws (good-sheet ws h)) (SheetLaws.good-sheet ws h) (has-column ws (good-rules ws h)) ∙ sym (rw h)
+module _ (ws : Words) where
+  pub answer-good : sheet_refusal ws ≡ 0 → Ok (laid_out (good_plan (sheet_of ws))) ≡ answer_of (plan ws)
+  unfolding answer_of plan good_plan
+  answer-good h = rw h
 
-pub answer-refused : (ws : Words) (k : ℕ) → sheet_refusal ws ≡ k → (k ≡ 0 → ⊥) → refused_answer k ≡ answer_of (plan ws)
-unfolding plan answer_of per_table sets_of filled
-answer-refused ws k e n = rw (ne_eqb (sheet_refusal ws) 0 (λ q. n (sym e ∙ q)), e)
+  answer-refused : (r : Refusal) → sheet_refusal ws ≡ refusal_number r → Err r ≡ answer_of (plan ws)
+  unfolding answer_of
+  answer-refused r h =
+      let is : plan ws ≡ no_plan (refusal_number r) = unfold plan in rw (h, ne_eqb (refusal_number r) 0 (never-zero r)) in
+      rw is (rw (ne_eqb (refusal_number r) 0 (never-zero r), of-number r))
 
--- the same, of what the check hands out
-module _ (ws : Words) (r : Checked) (e : r ≡ checked_of ws) where
-  verdict-is : r.verdict ≡ verdict_of ws
-  unfolding checked_of
-  verdict-is = ap (λ (c : Checked). c.verdict) e
+  -- its number is the refusal's, and 0 where there is a plan
+  pub planned-number : number_of (answer_of (plan ws)) ≡ sheet_refusal ws
+  planned-number = go (checked_of ws) refl
+    where
+      go : (v : Result Plan Refusal) → v ≡ checked_of ws → number_of (answer_of (plan ws)) ≡ sheet_refusal ws
+      go (Ok p) e = let zero = checked-zero ws p e in ap number_of (sym (answer-good zero)) ∙ sym zero
+      go (Err r) e = let is = checked-is ws r e in ap number_of (sym (answer-refused r is)) ∙ sym is
 
-  pub plan-refused : (k : ℕ) (a : PlanAnswer) → r.verdict ≡ Refused k → a ≡ refused_answer k → a ≡ answer_of (plan ws)
-  plan-refused k a v q = let x = refused-is ws k (sym verdict-is ∙ v) in q ∙ answer-refused ws k x.0 x.1
+  module _ (a : PlanAnswer) (e : Ok a ≡ answer_of (plan ws)) where
+    pub answered-zero : sheet_refusal ws ≡ 0
+    answered-zero = sym planned-number ∙ sym (ap number_of e)
 
-  module _ (v : r.verdict ≡ Good) where
-    not-refused : sheet_refusal ws ≡ 0
-    not-refused = good-zero ws (sym verdict-is ∙ v)
+    pub answered-plan : a ≡ laid_out (good_plan (sheet_of ws))
+    answered-plan = let q : ◌≡◌ {A = Result PlanAnswer Refusal} (Ok a) (Ok (laid_out (good_plan (sheet_of ws)))) = e ∙ sym (answer-good answered-zero) in cc
 
-    pub sheet-good : GoodSheet ws
-    sheet-good = good-sheet ws not-refused
+  pub answered-refused : (r : Refusal) → Err r ≡ answer_of (plan ws) → sheet_refusal ws ≡ refusal_number r
+  answered-refused r e = sym planned-number ∙ sym (ap number_of e)
 
+  -- the same, of what the check hands out
+  pub plan-refused : (r : Refusal) → Err r ≡ checked_of ws → Err r ≡ answer_of (plan ws)
+  plan-refused r e = answer-refused r (checked-is ws r e)
+
+  module _ (p : Plan) (e : Ok p ≡ checked_of ws) where
     pub plan-good : (a : PlanAnswer) (deps needs : List ℕ) → deps ≡ dep_of (sheet_of ws) → needs ≡ need_of (sheet_of ws)
-        → a ≡ answer_for r.plan deps needs → a ≡ answer_of (plan ws)
-    plan-good a deps needs d n q = rw (e, d, n) at q ∙ answer-good ws not-refused
-
-    facts : IsPlan (sheet_of ws) r.plan
-    facts = subst (λ (p : Plan). IsPlan (sheet_of ws) p) (sym (ap (λ (c : Checked). c.plan) e)) (planned ws not-refused)
+        → a ≡ answer_for p deps needs → Ok a ≡ answer_of (plan ws)
+    plan-good a deps needs d n q =
+        let zero = checked-zero ws p e in
+        let laid = plan-laid (sheet_of ws) (plan-facts ws (good-sheet ws zero)) (SheetLaws.good-sheet ws zero) (has-column ws (good-rules ws zero)) in
+        let same = rw (checked-plan ws p e, d, n) at q in
+        ap {B = Result PlanAnswer Refusal} Ok (same ∙ laid) ∙ answer-good zero
 
     -- what the answer is made from: at most eight tables, and arrays that are long enough
-    pub answerable : (r.plan.tables ≤ 8) × Lengths r.plan
-    answerable = (facts.tables-few, facts.lengths)
+    pub answerable : (p.tables ≤ 8) × Lengths p
+    answerable = let facts = planned ws p e in (facts.tables-few, facts.lengths)

@@ -22,7 +22,7 @@ use Rattle.sheet.proofs.Good.{good-rules}
 use Rattle.sheet_plan.specs.Marks.{has_mark, marked_in}
 use Rattle.sheet_plan.proofs.Chosen.{select-narrow}
 use Rattle.sheet_plan.proofs.Shown.{one-is, width_small}
-use Rattle.plan_answer.specs.Answers.{table_no, sets_of, per_table, answer_of}
+use Rattle.plan_answer.specs.Answers.{table_no, sets_of, per_table, laid_out}
 use Rattle.plan_answer.proofs.Laid.{table-in, tables-many}
 
 -- a list of numbers below 8, rising, each once
@@ -51,17 +51,17 @@ none-rising = record { test = λ c. false; below = 0; small = omega arith; chose
 
 -- table t's line of the plan, read from the answer
 pub record ReadBack (p : Meant.Plan) (t : ℕ) : Type 0 where
-  pub kept-is : get_or (answer_of p).kept t 0 ≡ (table_no p t).kept
-  pub columns-are : marked_in (answer_of p).columns t ≡ (table_no p t).columns
-  pub dep-is : marked_in (answer_of p).dep t ≡ (table_no p t).dep
-  pub need-is : marked_in (answer_of p).need t ≡ (table_no p t).need
-  pub start_is : get_or (answer_of p).starts t 0 ≡ (table_no p t).start
-  pub room-is : get_or (answer_of p).rooms t 0 ≡ (table_no p t).room
+  pub kept-is : get_or (laid_out p).kept t 0 ≡ (table_no p t).kept
+  pub columns-are : marked_in (laid_out p).columns t ≡ (table_no p t).columns
+  pub dep-is : marked_in (laid_out p).dep t ≡ (table_no p t).dep
+  pub need-is : marked_in (laid_out p).need t ≡ (table_no p t).need
+  pub start_is : get_or (laid_out p).starts t 0 ≡ (table_no p t).start
+  pub room-is : get_or (laid_out p).rooms t 0 ≡ (table_no p t).room
 
 -- a plan of at most eight tables whose sets rise
 read_back : (p : Meant.Plan) (t : ℕ) → t < length p.tables → length p.tables ≤ 8
     → Rising (table_no p t).columns → Rising (table_no p t).dep → Rising (table_no p t).need → ReadBack p t
-unfolding answer_of per_table
+unfolding laid_out per_table
 read_back p t h l a b c =
     record {
       kept-is = number (λ q. q.kept);

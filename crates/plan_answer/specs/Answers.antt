@@ -1,6 +1,6 @@
 -- The plan call's answer: document 01's plan laid out as arrays.
 -- Assumes nothing.
-use Rattle.std.specs.Prelude.{ℕ, ◌/◌, ◌%◌, cond, ◌&&◌, List, [], eqb, ltb, length, get_or, replicate}
+use Rattle.std.specs.Prelude.{ℕ, ◌/◌, ◌%◌, cond, ◌&&◌, List, [], Result, Ok, Err, eqb, ltb, length, get_or, replicate}
 use Rattle.lists.specs.Lists.{member}
 use Rattle.lists.specs.Totals.{one}
 use Rattle.lists.specs.Loops.{filled}
@@ -8,6 +8,8 @@ use Rattle.meaning.specs.Limits.{most_tables, most_columns, most_places}
 use Rattle.meaning.specs.Plan.{TablePlan, dep, need}
 use Rattle.meaning.specs.Plan as Meant
 use Rattle.meaning.specs.Sheet.{Sheet}
+use Rattle.sheet.specs.declared.refusal.Refusal.{Refusal}
+use Rattle.sheet.specs.Refusals.{refusal_of}
 use Rattle.sheet_plan.specs.declared.Plan.{Plan}
 use Rattle.plan_answer.specs.declared.PlanAnswer.{PlanAnswer}
 
@@ -26,10 +28,9 @@ sets_of f = filled (λ i. one (member (i % most_tables) (f (i / most_tables)))) 
 unfoldable pub per_table : (ℕ → ℕ) → ℕ → List ℕ
 per_table f n = filled f n (replicate most_tables 0)
 
-unfoldable pub answer_of : Meant.Plan → PlanAnswer
-answer_of p =
+unfoldable pub laid_out : Meant.Plan → PlanAnswer
+laid_out p =
     record {
-      number = p.number;
       tables = length p.tables;
       root = p.root;
       store = p.store;
@@ -40,6 +41,10 @@ answer_of p =
       starts = per_table (λ t. (table_no p t).start) (length p.tables);
       rooms = per_table (λ t. (table_no p t).room) (length p.tables);
     }
+
+-- the plan, or the refusal alone
+unfoldable pub answer_of : Meant.Plan → Result PlanAnswer Refusal
+answer_of p = cond (eqb p.number 0) (Ok (laid_out p)) (Err (refusal_of p.number))
 
 -- Dep and Need as marks: place i speaks of table i / 8 and of the table i % 8
 unfoldable pub dep_at : Sheet → ℕ → ℕ
@@ -67,7 +72,6 @@ first_parts parts n = filled (λ t. get_or parts t 0) n (replicate most_tables 0
 unfoldable pub answer_for : Plan → List ℕ → List ℕ → PlanAnswer
 answer_for p dep need =
     record {
-      number = 0;
       tables = p.tables;
       root = p.root;
       store = p.store;
@@ -77,19 +81,4 @@ answer_for p dep need =
       need = need;
       starts = first_parts p.starts p.tables;
       rooms = first_parts p.rooms p.tables;
-    }
-
-abbrev pub refused_answer : ℕ → PlanAnswer
-refused_answer number =
-    record {
-      number = number;
-      tables = 0;
-      root = 0;
-      store = 0;
-      kept = replicate most_tables 0;
-      columns = replicate most_places 0;
-      dep = replicate most_places 0;
-      need = replicate most_places 0;
-      starts = replicate most_tables 0;
-      rooms = replicate most_tables 0;
     }

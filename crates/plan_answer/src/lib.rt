@@ -7,15 +7,14 @@ ghost use Rattle.meaning.specs.Plan.{plan};
 ghost use Rattle.meaning.specs.Sheet.{sheet_of};
 ghost use Rattle.sheet.specs.Tree.{GoodSheet};
 ghost use Rattle.sheet_plan.specs.Planned.{Lengths};
-ghost use Rattle.plan_answer.specs.Answers.{dep_of, need_of, kept_columns, first_parts, answer_for, refused_answer, answer_of};
+ghost use Rattle.plan_answer.specs.Answers.{dep_of, need_of, kept_columns, first_parts, answer_for, answer_of};
 
-use sheet::{COLUMNS, PLACES, TABLES, Verdict};
+use sheet::{COLUMNS, PLACES, Refusal, TABLES};
 use sheet_plan::Plan;
 
-// What is printed of the plan, with each table's place and room. Every other field is zero where the sheet is refused.
+// What is printed of the plan, with each table's place and room.
 #[derive(Clone, Copy)]
 pub struct PlanAnswer {
-    pub number: u64,
     pub tables: usize,
     pub root: usize,
     // the store's length
@@ -74,7 +73,6 @@ fn answer_for(p: Plan, dep: [u64; PLACES], need: [u64; PLACES]) -> PlanAnswer
     ensures { result ≡ answer_for p dep need }
 {
     PlanAnswer {
-        number: 0,
         tables: p.tables,
         root: p.root,
         store: p.store,
@@ -87,34 +85,12 @@ fn answer_for(p: Plan, dep: [u64; PLACES], need: [u64; PLACES]) -> PlanAnswer
     }
 }
 
-fn refused_answer(number: u64) -> PlanAnswer
-    ensures { result ≡ refused_answer number }
-{
-    PlanAnswer {
-        number: number,
-        tables: 0,
-        root: 0,
-        store: 0,
-        kept: [0u64; TABLES],
-        columns: [0u64; PLACES],
-        dep: [0u64; PLACES],
-        need: [0u64; PLACES],
-        starts: [0usize; TABLES],
-        rooms: [0usize; TABLES],
-    }
-}
-
 // The plan call.
-pub fn plan_of(sheet: &[u64]) -> PlanAnswer
+pub fn plan_of(sheet: &[u64]) -> Result<PlanAnswer, Refusal>
     ensures { result ≡ answer_of (plan sheet.now) }
 {
-    let c = sheet_plan::check(sheet);
-    let v = c.verdict;
-    let p = c.plan;
-    let Verdict::Good = v else {
-        return refused_answer(sheet::number_of(v));
-    };
+    let p = sheet_plan::check(sheet)?;
     let dep = dep_marks(sheet);
     let need = need_marks(sheet);
-    answer_for(p, dep, need)
+    Ok(answer_for(p, dep, need))
 }

@@ -11,7 +11,7 @@ use borrow.Author.Tests.{ltb-true, ltb-false, lt-ltb, le-ltb, eq-eqb, ne_eqb, no
 use Rattle.lists.proofs.Truth.{is_t, T→≡, F→≡, and-fst, and-snd}
 use Rattle.std.specs.declared.cmp.Ordering.{Ordering}
 use Rattle.std.specs.declared.cmp.Ordering.TheVariants.{Less, Equal, Greater}
-use Rattle.std.specs.Ordering.{is_eq, is_gt, is_ge, is_le, nat_cmp, ordering_then}
+use Rattle.std.specs.Ordering.{is_eq, is_gt, is_ge, is_le, is_lt, nat_cmp, ordering_then}
 use Rattle.std.specs.Cmp.Lexicographic.{slice_cmp}
 use Rattle.rows.specs.Rows.{Row, word_order, then_by, row_order, is_less, smaller, same_row, not_after}
 
@@ -277,6 +277,15 @@ module _ (r q : Row) where
       go Less e = ap not (sym (less-not-smaller r q e))
       go Equal e = ap not (sym (equal-not-smaller r q e))
       go Greater e = ap not (sym (greater-smaller r q e))
+
+  pub before-is : is_lt (row_order r q) ≡ smaller r q
+  unfolding smaller is_less
+  before-is = go (row_order r q)
+    where
+      go : (o : Ordering) → is_lt o ≡ is_less o
+      go Less = refl
+      go Equal = refl
+      go Greater = refl
 
   pub same-is : is_eq (row_order r q) ≡ same_row r q
   same-is = go (row_order r q) refl

@@ -28,7 +28,8 @@ chosen t (x ∷ xs) = ap (λ (l : List ℕ). cond (t x) (x ∷ l) l) (chosen t x
 
 -- `(0..n).filter(f).count()`
 pub counted-from_count : {F : Type 0} {g : Mut F (Bor ℕ × Unit {0}) Bool} {n m : ℕ} {f : F} {s : _} (t : ℕ → Bool) (r : ℕ) → n ≡ m
-    → ◌≡◌ {A = Range ℕ} (filter_source s) (record { start = 0; end = n }) → filter_callee s ≡ f → (xs : List ℕ) × Drains (filter_steps nat_range_steps g) s xs × (r ≡ length xs)
+    → ◌≡◌ {A = Range ℕ} (filter_source s) (record { start = 0; end = n }) → filter_callee s ≡ f
+    → (xs : List ℕ) × Drains (filter_steps nat_range_steps g) s xs × (r ≡ length xs)
     → ((x : ℕ) (b : Bool) (q : F) → CalledAt g f x b q → (q ≡ f) × (b ≡ t x)) → r ≡ counted t m
 counted-from_count {g = g} {n = n} {s = s} t r end source callee ran says =
     count_from_yields_List s r ran (YieldsList-from_filter g t (YieldsList-at source (YieldsList-from_range 0 n n refl (less-0 n))) callee says)

@@ -20,7 +20,8 @@ use Rattle.store.specs.Parts.{rows_in, Lies, Kept, Wrote}
 use Rattle.store.specs.Plans.{GoodPlan, part_of}
 use Rattle.store.proofs.Lying.{rows_is, lies-kept, wrote-stands, lies-rows}
 use Rattle.store.proofs.Plans.{marked, part_lies}
-use Rattle.side_table.specs.Sides.{Begins, Modelled, Sided}
+use Rattle.side_table.specs.declared.Entry.{Entry}
+use Rattle.side_table.specs.Sides.{Begins, IsEntry, Modelled, Sided}
 
 -- q is the part of table t, a kept one of a good sheet
 pub record Side (s : Sheet) (t : ℕ) (q : Part) : Type 0 where
@@ -34,6 +35,10 @@ pub record Side (s : Sheet) (t : ℕ) (q : Part) : Type 0 where
 pub side-planned : (s : Sheet) (p : Plan) → GoodPlan s p → (t : ℕ) → t < s.n → T (kept s t) → (q : Part) → q ≡ part_of p t → Side s t q
 side-planned s p plan t l k q e =
     record { good = plan.good; there = l; is-kept = k; few = plan.planned.shown-few t; lies = part_lies s p plan t (omega arith) q e }
+
+-- or where a row for it belongs
+pub entry-side : (s : Sheet) (p : Plan) → GoodPlan s p → (t : ℕ) → t < s.n → {r : Row} {e : Entry} → IsEntry s t r e → Side s t e.part
+entry-side s p plan t l is = record { good = plan.good; there = l; is-kept = is.is-kept; few = plan.planned.shown-few t; lies = is.lies }
 
 -- and its mark says that t is kept
 pub side-marked : (s : Sheet) (p : Plan) → GoodPlan s p → (t : ℕ) → t < s.n → (get_or p.kept t 0 ≡ 0 → ⊥) → (q : Part) → q ≡ part_of p t → Side s t q

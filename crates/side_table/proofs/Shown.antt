@@ -5,17 +5,16 @@ use mathlib.Core.Path.{◌≡◌, refl, sym, ap, ◌∙◌}
 use mathlib.Core.List.{List, [], ◌∷◌, ◌++◌}
 use native.Mathlib.Nat.{le_of_suc-le-suc, not-suc-le-zero}
 use native.Mathlib.Omega.{arith}
-use lib.Dec.{T}
 use lib.ListN.{length, get_or, take, length-map}
-use lib.Seq.{ext_get_or, take_at, length-take-le}
+use lib.Seq.{ext_get_or, take_at}
 use Rattle.lists.specs.Lists.{Words, at}
 use Rattle.lists.specs.Loops.{filled}
 use Rattle.lists.proofs.Truth.{mem-get_or}
 use Rattle.lists.proofs.Loops.{length-filled, get_or-filled, filled-end}
 use Rattle.rows.specs.Rows.{Row, pick}
 use Rattle.meaning.specs.Sheet.{Sheet, width}
-use Rattle.meaning.specs.Plan.{kept, shown}
-use Rattle.laws.proofs.Columns.{columns-side, shown-below}
+use Rattle.meaning.specs.Plan.{shown}
+use Rattle.laws.proofs.Columns.{shown-below}
 use Rattle.sheet_plan.specs.declared.Plan.{Plan}
 use Rattle.store.specs.Plans.{GoodPlan}
 
@@ -67,15 +66,5 @@ shown-end s t r k old row len a b h =
         ∙ sym (at-pick r (shown s t) i (omega (arith, long)))
 
 -- in a row of eight words
-module _ {s : Sheet} {p : Plan} (plan : GoodPlan s p) (t : ℕ) (l : t < s.n) (k : T (kept s t)) where
-  pub shown-count : get_or p.columns t 0 ≡ length (shown s t)
-  shown-count = plan.planned.columns-at t (omega arith) ∙ columns-side s t l k
-
-  pub shown-eight : get_or p.columns t 0 ≤ 8
-  shown-eight = omega (arith, shown-count, plan.planned.shown-few t)
-
-  pub shown-room : (ws : Words) → 8 ≤ length ws → length (take (get_or p.columns t 0) ws) ≡ get_or p.columns t 0
-  shown-room ws e = length-take-le (get_or p.columns t 0) ws (omega (arith, shown-eight))
-
-  pub shown-back : (x rest y : Words) → length x ≡ get_or p.columns t 0 → x ≡ y → take (length (shown s t)) (x ++ rest) ≡ y
-  shown-back x rest y long e = take_at x rest (length (shown s t)) (long ∙ shown-count) ∙ e
+pub shown-back : (n : ℕ) (x rest y : Words) → length x ≡ n → x ≡ y → take n (x ++ rest) ≡ y
+shown-back n x rest y long e = take_at x rest n long ∙ e

@@ -4,7 +4,9 @@ use Rattle.std.specs.Prelude.{ℕ, ◌≡◌, Bool, not, ◌||◌, T, ltb, lengt
 use Rattle.lists.specs.Lists.{Words}
 use Rattle.rows.specs.Rows.{Row, Rows, key, pick, has_row, no_key_twice, put_rows, take_rows}
 use Rattle.rows.specs.Ranks.{found_row}
-use Rattle.std.specs.Prelude.{Option}
+use Rattle.std.specs.Prelude.{Option, MatchOption}
+use Rattle.store.specs.Parts.{Lies}
+use Rattle.side_table.specs.declared.Entry.{Entry}
 use Rattle.meaning.specs.Sheet.{Sheet, room}
 use Rattle.meaning.specs.Plan.{kept, shown}
 use Rattle.meaning.specs.Meaning.{Model}
@@ -15,6 +17,16 @@ use Rattle.places.specs.Stands.{Stands, with_part}
 -- the row begins with r's shown columns
 pub record Begins (s : Sheet) (t : ℕ) (r row : Row) : Type 0 where
   pub head : take (length (shown s t)) row ≡ pick (shown s t) r
+
+-- a row for t's side table: t is kept, the part is t's, and the words begin with r's shown columns
+pub record IsEntry (s : Sheet) (t : ℕ) (r : Row) (e : Entry) : Type 0 where
+  pub is-kept : T (kept s t)
+  pub lies : Lies s t e.part
+  pub begins : Begins s t r e.words
+
+-- a kept table has one
+abbrev pub EntryOf : Sheet → ℕ → Row → Option Entry → Type 0
+EntryOf s t r o = MatchOption o (T (kept s t) → ⊥) (IsEntry s t r)
 
 -- where r's shown columns stand in t's side table
 abbrev pub found_side : Sheet → Words → ℕ → Row → Option ℕ

@@ -1,17 +1,19 @@
 // The changed table's own side table: what the tests ask of it, and its row put in, taken out or replaced. An unkept table has none.
 #![tactic(auto)]
 
-ghost use Rattle.std.specs.Prelude.{◌≡◌, ℕ, ◌<◌, T, length};
+ghost use Rattle.std.specs.Prelude.{◌≡◌, ℕ, ◌<◌, ◌≤◌, T, length, take};
 ghost use Rattle.rows.specs.Rows.{pick};
+ghost use Rattle.meaning.specs.Limits.{most_columns};
 ghost use Rattle.meaning.specs.Sheet.{sheet_of, width};
 ghost use Rattle.meaning.specs.Plan.{kept, shown};
 ghost use Rattle.meaning.specs.Store.{model_of, sound};
 ghost use Rattle.meaning.specs.Change.{qualifies, new_key, old_row};
 ghost use Rattle.store.specs.Plans.{GoodPlan};
-ghost use Rattle.side_table.specs.Sides.{Begins, found_side, Modelled, has_room, Replaceable, SidePut, SideTaken, SideReplaced};
+ghost use Rattle.side_table.specs.Sides.{found_side, EntryOf, Modelled, has_room, Replaceable, SidePut, SideTaken, SideReplaced};
 
 use sheet::COLUMNS;
 use sheet_plan::Plan;
+use store::Part;
 
 // r's shown columns go into the lent row.
 pub fn side_row(sheet: &[u64], plan: &Plan, t: usize, r: &[u64], row: &mut [u64])
@@ -26,18 +28,37 @@ pub fn side_row(sheet: &[u64], plan: &Plan, t: usize, r: &[u64], row: &mut [u64]
     }
 }
 
-// The same for a kept table, in a row of its own: the shown columns, and zeros behind them.
-fn side_words(sheet: &[u64], plan: &Plan, t: usize, r: &[u64]) -> [u64; COLUMNS]
+// A row for t's side table: the part where it belongs, and its shown columns with zeros behind them.
+#[derive(Clone, Copy)]
+struct Entry {
+    part: Part,
+    words: [u64; COLUMNS],
+}
+
+impl Entry {
+    // The shown columns alone.
+    fn row(&self) -> &[u64]
+        requires { self.now.part.columns ≤ most_columns }
+        ensures { result.now ≡ take self.now.part.columns self.now.words }
+    {
+        &self.words[..self.part.columns]
+    }
+}
+
+// r's row for t's side table, if t is kept.
+fn entry_of(sheet: &[u64], plan: &Plan, t: usize, r: &[u64]) -> Option<Entry>
     requires good_plan { GoodPlan (sheet_of sheet.now) plan.now }
     requires t_bound { t < (sheet_of sheet.now).n }
     requires r_len { length r.now ≡ width (sheet_of sheet.now) t }
-    requires t { T (kept (sheet_of sheet.now) t) }
-    ensures { Begins (sheet_of sheet.now) t r.now result }
+    ensures { EntryOf (sheet_of sheet.now) t r.now result }
 {
-    let w = plan.columns[t];
-    let mut row = [0u64; COLUMNS];
-    side_row(sheet, plan, t, r, &mut row[..w]);
-    row
+    if plan.kept[t] == 0 {
+        return None;
+    }
+    let part = store::part_of(plan, t);
+    let mut words = [0u64; COLUMNS];
+    side_row(sheet, plan, t, r, &mut words[..part.columns]);
+    Some(Entry { part, words })
 }
 
 // Where r's shown columns stand in the kept side table of t.
@@ -49,9 +70,8 @@ fn find_side(sheet: &[u64], plan: &Plan, store: &[u64], t: usize, r: &[u64]) -> 
     requires modelled { Modelled (sheet_of sheet.now) store.now }
     ensures { result ≡ found_side (sheet_of sheet.now) store.now t r.now }
 {
-    let p = store::part_of(plan, t);
-    let row = side_words(sheet, plan, t, r);
-    store::find_row(store, p, &row[..p.columns])
+    let entry = entry_of(sheet, plan, t, r)?;
+    store::find_row(store, entry.part, entry.row())
 }
 
 // Whether r's key is new in t's side table.
@@ -116,12 +136,9 @@ pub fn put_side(sheet: &[u64], plan: &Plan, store: &mut [u64], t: usize, r: &[u6
     requires t { T (has_room (sheet_of sheet.now) store.old t) }
     ensures { SidePut (sheet_of sheet.now) t r.now store.old store.new }
 {
-    if plan.kept[t] == 0 {
-        return;
+    if let Some(entry) = entry_of(sheet, plan, t, r) {
+        store::put_row(store, entry.part, entry.row());
     }
-    let p = store::part_of(plan, t);
-    let row = side_words(sheet, plan, t, r);
-    store::put_row(store, p, &row[..p.columns]);
 }
 
 // r's shown columns go out of t's side table.
@@ -132,12 +149,9 @@ pub fn take_side(sheet: &[u64], plan: &Plan, store: &mut [u64], t: usize, r: &[u
     requires modelled { Modelled (sheet_of sheet.now) store.old }
     ensures { SideTaken (sheet_of sheet.now) t r.now store.old store.new }
 {
-    if plan.kept[t] == 0 {
-        return;
+    if let Some(entry) = entry_of(sheet, plan, t, r) {
+        store::take_row(store, entry.part, entry.row());
     }
-    let p = store::part_of(plan, t);
-    let row = side_words(sheet, plan, t, r);
-    store::take_row(store, p, &row[..p.columns]);
 }
 
 // In t's side table the shown columns of a row with the same key stand over old's.
@@ -157,12 +171,9 @@ pub fn replace_side(
     requires replaceable { Replaceable (sheet_of sheet.now) store.old t old.now new.now }
     ensures { SideReplaced (sheet_of sheet.now) t old.now new.now store.old store.new }
 {
-    if plan.kept[t] == 0 {
-        return;
-    }
-    if let Some(at) = find_side(sheet, plan, store, t, old) {
-        let p = store::part_of(plan, t);
-        let row = side_words(sheet, plan, t, new);
-        store::replace_row(store, p, at, &row[..p.columns]);
+    if let Some(entry) = entry_of(sheet, plan, t, new) {
+        if let Some(at) = find_side(sheet, plan, store, t, old) {
+            store::replace_row(store, entry.part, at, entry.row());
+        }
     }
 }

@@ -87,6 +87,11 @@ pub lent-words : (p : Part) (ws : Words) {e : ℕ} → e ≡ stop_of p → take 
 unfolding words_in part
 lent-words p ws end = ap (λ (to : ℕ). take (to - p.start) (drop p.start ws)) end
 
+-- and what stands in the store when they are back
+pub lent-back : (p : Part) (ws : Words) {e : ℕ} → e ≡ stop_of p → (f : Words → Words) {x : Words} → x ≡ f (take (e - p.start) (drop p.start ws))
+    → put_mid p.start (e - p.start) ws x ≡ splice ws p.start (stop_of p) (f (words_in p ws))
+lent-back p ws end f {x} is = rw end (put_back ws p.start (stop_of p) x (f (words_in p ws)) (omega arith) (is ∙ ap f (lent-words p ws end)))
+
 -- The same where they are lent to be written: what is written is what a function of `rows` makes of the rows
 module _ {p : Part} {ws : Words} (k : Kept p ws) {n e : ℕ} (counted : n ≡ count_in p ws) (end : e ≡ stop_of p) where
   abbrev lent : Words

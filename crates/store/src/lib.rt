@@ -16,7 +16,7 @@ use sheet::{PARTS, Refusal, TABLES};
 use sheet_plan::Plan;
 
 // What an accepted call did to the list: how many rows it took from it, and how many it added.
-#[derive(Clone, Copy, PartialEq, Eq, Debug)]
+#[derive(Clone, Copy, PartialEq, Eq, Debug, Default)]
 pub struct Done {
     pub taken: u64,
     pub added: u64,

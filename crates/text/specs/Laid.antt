@@ -1,10 +1,10 @@
 -- The text of the plan call's answer, in which a set is a row of marks.
 -- Assumes nothing.
-use Rattle.std.specs.Prelude.{ℕ, cond, ◌++◌, eqb, get_or}
+use Rattle.std.specs.Prelude.{ℕ, ◌++◌, get_or}
 use Rattle.sheet_plan.specs.Marks.{marked_in}
 use Rattle.plan_answer.specs.declared.PlanAnswer.{PlanAnswer}
 use Rattle.text.specs.Reading.{Text}
-use Rattle.text.specs.Printing.{sets_text, line_text, head_text, refused_text, lines_up_to}
+use Rattle.text.specs.Printing.{sets_text, line_text, head_text, lines_up_to}
 
 -- table t's sets, which are three runs of marks, its line, and all lines
 abbrev pub sets_in : PlanAnswer → ℕ → Text
@@ -17,4 +17,4 @@ abbrev pub lines_in : PlanAnswer → Text
 lines_in a = lines_up_to (line_of a) a.tables
 
 unfoldable pub answer_text : PlanAnswer → Text
-answer_text a = cond (eqb a.number 0) (head_text a.root a.store ++ lines_in a) (refused_text a.number)
+answer_text a = head_text a.root a.store ++ lines_in a

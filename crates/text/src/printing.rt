@@ -152,16 +152,13 @@ fn put_lines(answer: &PlanAnswer, out: &mut [u8], at: usize) -> usize
 // There is room in a page for the text of every plan.
 pub const PAGE: usize = 1024;
 
-// Writes the text of the plan call's answer: 57 bytes at most, and 115 for each of eight tables.
+// Writes the text of a plan: 57 bytes at most, and 115 for each of eight tables.
 fn put_plan(a: PlanAnswer, out: &mut [u8]) -> usize
     requires tables_le_most_tables { a.tables ≤ most_tables }
     requires page_in_bounds { page ≤ length out.old }
     ensures put_at { PutAt out.old 0 (answer_text a) out.new result }
     ensures upper_bound { result ≤ page }
 {
-    if a.number != 0 {
-        return put_refused(a.number, out, 0);
-    }
     let end = put_head(a.root as u64, a.store as u64, out, 0);
     put_lines(&a, out, end)
 }
@@ -171,8 +168,10 @@ pub fn put_plan_of(sheet: &[u64], out: &mut [u8; PAGE]) -> usize
     ensures put_at { PutAt out.old 0 (plan_text (plan sheet.now)) out.new result }
     ensures upper_bound { result ≤ page }
 {
-    let a = plan_answer::plan_of(sheet);
-    put_plan(a, out)
+    match plan_answer::plan_of(sheet) {
+        Ok(a) => put_plan(a, out),
+        Err(refusal) => put_refused(u64::from(refusal), out, 0),
+    }
 }
 
 // Writes the refusal of a text that isn't such numbers.

@@ -21,7 +21,7 @@ asked-requires c = good-sheet _ (checked-zero _ _ c.in_ok-plan.ensures)
 
 pub returns-in_err-asked : goal.returns-in_err-asked
 returns-in_err-asked c =
-    let p = err_from_is_err_and c.from_residual.result c.from_residual.ensures.1 in
+    let p = err_from_is_err_and c.from_residual-in_err-asked.result c.from_residual-in_err-asked.ensures.1 in
     rw (p.1, p.2) (says-asked _ _ _ _ c.in_ok-plan.ensures c.if-store-plan.false _ c.in_err-asked.ensures)
 
 pub is_sound-requires : goal.is_sound-requires

@@ -1,57 +1,87 @@
-use Rattle.std.proofs.Common.{rules, ◌≡◌, ℕ, ◌+◌, ◌-◌, ◌*◌, ◌<◌, ◌≤◌, length, ◌/◌, ◌%◌, Bool, true, false, nat_eq, nat_lt, List, [], ◌∷◌, ◌++◌, slice_index_or, slice_set, bit_and, bit_or, Fits, w8, w32, w64, Bor, MutBor}
-use Rattle.change_laws.specs.Ready.{Ready}
-use Rattle.walk.specs.Grounds.{Lent}
-use Rattle.change_insert.specs.Inserts.{Inserts}
+-- `insert` meets its contract.
+-- Assumes nothing.
+use Rattle.change_laws.proofs.Answers.{refused-by}
+use Rattle.change_laws.proofs.Halves.{ready-ground, ready-list, ready-table, half-modelled}
+use Rattle.change_insert.proofs.Inserting.{inserts-contradicts, inserts-none, inserts-no-room-side, inserts-no-room-list}
+use Rattle.change_insert.proofs.Inserting.{insertable, half_room, inserts-done}
+use mathlib.Core.Path.{ap}
+use Rattle.std.proofs.lemmas.Result.{err_from_is_err_and}
+use mathlib.Core.Bool.{not}
 use Rattle.change_insert.proofs.insert.Goals as goal
 
--- src/lib.rt:24:9
-pub new_key-requires-clause-t_bound : goal.new_key-requires-clause-t_bound
-new_key-requires-clause-t_bound c = ?
+pub new_key-requires : goal.new_key-requires
+new_key-requires c =
+    record {
+      good_plan = c.requires.ready.planned;
+      t_bound = ready-table c.requires.ready c.requires.lent;
+      r_len = c.requires.lent.wide;
+      t = c.requires.ready.sound;
+    }
 
--- src/lib.rt:25:9
 pub returns-then-not-new_key : goal.returns-then-not-new_key
-returns-then-not-new_key c = ?
+returns-then-not-new_key c =
+    inserts-contradicts c.requires.ready c.requires.lent _ c.new_key.ensures (ap not c.if-not-new_key.true)
 
--- src/lib.rt:27:9
-pub is_qualified-requires-clause-laid : goal.is_qualified-requires-clause-laid
-is_qualified-requires-clause-laid c = ?
+pub is_qualified-requires : goal.is_qualified-requires
+is_qualified-requires c =
+    record {
+      laid = (ready-ground c.requires.ready).legible.laid;
+      lent = c.requires.lent;
+    }
 
--- src/lib.rt:28:9
 pub returns-then-not-is_qualified : goal.returns-then-not-is_qualified
-returns-then-not-is_qualified c = ?
+returns-then-not-is_qualified c =
+    inserts-none c.requires.ready c.requires.lent _ c.new_key.ensures (ap not c.if-not-new_key.false) _ c.is_qualified.ensures
+    (ap not c.if-not-is_qualified.true)
 
--- src/lib.rt:30:9
-pub has_room-requires-clause-t_bound : goal.has_room-requires-clause-t_bound
-has_room-requires-clause-t_bound c = ?
+pub has_room-requires : goal.has_room-requires
+has_room-requires c =
+    record {
+      good_plan = c.requires.ready.planned;
+      t_bound = ready-table c.requires.ready c.requires.lent;
+      t = c.requires.ready.sound;
+    }
 
--- src/lib.rt:31:9
 pub returns-then-not-has_room : goal.returns-then-not-has_room
-returns-then-not-has_room c = ?
+returns-then-not-has_room c =
+    inserts-no-room-side c.requires.ready c.requires.lent _ c.new_key.ensures (ap not c.if-not-new_key.false) _
+    c.is_qualified.ensures (ap not c.if-not-is_qualified.false) _ c.has_room.ensures (ap not c.if-not-has_room.true)
 
--- src/lib.rt:34:17
-pub add_ways-requires-clause-ground : goal.add_ways-requires-clause-ground
-add_ways-requires-clause-ground c = ?
+pub add_ways-requires : goal.add_ways-requires
+add_ways-requires c =
+    record {
+      ground = ready-ground c.requires.ready;
+      lent = c.requires.lent;
+      adding = record { sound = c.requires.ready.sound; lies = ready-list c.requires.ready _ c.part_of-list.ensures };
+    }
 
--- src/lib.rt:34:17
-pub add_ways-requires-clause-adding : goal.add_ways-requires-clause-adding
-add_ways-requires-clause-adding c = ?
+pub put_side-requires : goal.put_side-requires
+put_side-requires c =
+    let gained = rw c.in_ok-added.ensures.ok_part at c.add_ways.ensures in
+    let p = insertable c.requires.ready c.requires.lent _ c.new_key.ensures (ap not c.if-not-new_key.false) _ c.is_qualified.ensures
+    (ap not c.if-not-is_qualified.false) _ c.has_room.ensures (ap not c.if-not-has_room.false) _ (ready-list c.requires.ready _ c.part_of-list.ensures) _
+    gained.0 gained.1 in
+    record {
+      good_plan = p.ready.planned;
+      t_bound = ready-table p.ready p.lent;
+      r_len = p.lent.wide;
+      modelled = half-modelled p.ready _ p.lies _ _ gained.2;
+      t = half_room p _ gained.2;
+    }
 
--- src/lib.rt:34:17
-pub returns-in_err-added : goal.returns-in_err-added
-returns-in_err-added c = ?
-
--- src/lib.rt:35:5
-pub put_side-requires-clause-t_bound : goal.put_side-requires-clause-t_bound
-put_side-requires-clause-t_bound c = ?
-
--- src/lib.rt:35:5
-pub put_side-requires-clause-modelled : goal.put_side-requires-clause-modelled
-put_side-requires-clause-modelled c = ?
-
--- src/lib.rt:35:5
-pub put_side-requires-clause-t : goal.put_side-requires-clause-t
-put_side-requires-clause-t c = ?
-
--- src/lib.rt:13:1
 pub returns : goal.returns
-returns c = ?
+returns c =
+    let gained = rw c.in_ok-added.ensures.ok_part at c.add_ways.ensures in
+    let p = insertable c.requires.ready c.requires.lent _ c.new_key.ensures (ap not c.if-not-new_key.false) _ c.is_qualified.ensures
+    (ap not c.if-not-is_qualified.false) _ c.has_room.ensures (ap not c.if-not-has_room.false) _ (ready-list c.requires.ready _ c.part_of-list.ensures) _
+    gained.0 gained.1 in
+    inserts-done p _ gained.2 _ c.put_side.ensures
+
+pub returns-in_err-added : goal.returns-in_err-added
+returns-in_err-added c =
+    let refused = rw c.in_err-added.ensures.ok_part at c.add_ways.ensures in
+    let p = err_from_is_err_and c.from_residual.result c.from_residual.ensures.1 in
+    rw (p.1, p.2, refused-by _ _ _ c.in_err-added.ensures.value c.in_err-added.ensures.ok_part)
+    (inserts-no-room-list c.requires.ready c.requires.lent _ c.new_key.ensures (ap not c.if-not-new_key.false) _
+    c.is_qualified.ensures (ap not c.if-not-is_qualified.false) _ c.has_room.ensures (ap not c.if-not-has_room.false) _
+    (ready-list c.requires.ready _ c.part_of-list.ensures) refused.0 _ refused.1)

@@ -19,10 +19,6 @@ returns-then-edge-t t c =
     dep-here _ _ _ c.edge_into-k.ensures _ c.requires (omega arith) c.edge_no-edge.ensures _ c.if-left-eq0.false c.if-edge-ne1.false
     c.if-edge-t.true
 
-pub depends-requires : goal.depends-requires
-depends-requires t c =
-    (omega arith, c.requires)
-
 pub returns : goal.returns
 returns t c =
     dep-on _ _ _ c.edge_into-k.ensures _ c.requires (omega arith) c.edge_no-edge.ensures _ _ c.if-left-eq0.false c.if-edge-ne1.false

@@ -21,11 +21,6 @@ returns-then-edge-u t c =
     need-child _ _ _ c.requires.0 c.requires.1 (sym c.is_listed.ensures ∙ c.if-is_listed.false) _ c.edge_into-k.ensures
     (omega arith) c.edge_no-edge.ensures _ c.if-left-eq0.false c.if-edge-u.true
 
-pub needs-requires : goal.needs-requires
-needs-requires t c =
-    let there = (c.requires.0.joined.rules.edges c.edge_into-k.result (omega arith)).there.table in
-    (omega arith, (c.requires.0, omega (arith, c.edge_no-edge.ensures.child-is)))
-
 pub returns : goal.returns
 returns t c =
     need-on _ _ _ c.requires.0 c.requires.1 (sym c.is_listed.ensures ∙ c.if-is_listed.false) _ c.edge_into-k.ensures

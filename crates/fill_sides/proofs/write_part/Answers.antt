@@ -1,76 +1,67 @@
--- `write_part` meets its contract. The loop's invariant: the side rows of the first j rows in key order stand at the part's front.
+-- `write_part` meets its contract.
 -- Assumes nothing.
-use mathlib.Core.Path.{sym, ◌∙◌}
-use Rattle.base_run.proofs.Lends.{span}
-use Rattle.fill_sides.proofs.Numbers.{number-place, number_in}
-use Rattle.fill_sides.proofs.Rows.{front-none, front-end, front-miss, front-room, front-hit}
+use mathlib.Core.Path.{sym, ap, ◌∙◌}
+use Rattle.base_run.proofs.Steps.{row_long}
+use Rattle.base_qualified.proofs.Bases.{based}
+use Rattle.fill_sides.proofs.Numbers.{order-long, number_turn, number_is, number_in}
+use Rattle.fill_sides.proofs.Rows.{column-in, front-none, front-end, front-miss, front-room, front-hit}
+use lib.ListN.{length}
 use native.Mathlib.Omega.{arith}
+use Rattle.fill_sides.proofs.write_part.Goals.{then-passes, else-passes}
 use Rattle.fill_sides.proofs.write_part.Goals as goal
 
-pub offset_bounds-run-t : goal.offset_bounds-run-t
-offset_bounds-run-t c =
-    omega (arith, span c.requires.based.laid c.requires.table)
+pub loop-r-init : goal.loop-r-init
+loop-r-init c = (omega arith, front-none (based c.args.base.now) c.requires)
 
-pub bounds-run-t : goal.bounds-run-t
-bounds-run-t c =
-    omega (arith, span c.requires.based.laid c.requires.table)
+pub passes-requires-clause-i_bound : goal.passes-requires-clause-i_bound
+passes-requires-clause-i_bound c =
+    number_in (based c.args.base.now) c.requires.table c.numbers_of-r-items.ensures c.loop-r-test.true c.from-i.ensures
 
-pub loop-j-init : goal.loop-j-init
-loop-j-init c =
-    (omega arith, omega arith, front-none c.requires)
-
-pub number_at-i-requires : goal.number_at-i-requires
-number_at-i-requires c =
-    number-place c.requires.based c.requires.table c.loop-j-test.true
-
-pub overflow_add-j : goal.overflow_add-j
-overflow_add-j c =
-    omega (arith, span c.requires.based.laid c.requires.table)
-
-pub passes-requires : goal.passes-requires
-passes-requires c =
-    record {
-      based = c.requires.based;
-      t_bound = c.requires.table;
-      i_bound = number_in c.requires.based c.requires.table _ _ c.loop-j-test.true c.number_at-i.ensures;
-    }
+pub row-row-requires-clause-i_bound : goal.row-row-requires-clause-i_bound
+row-row-requires-clause-i_bound c =
+    number_in (based c.args.base.now) c.requires.table c.numbers_of-r-items.ensures c.loop-r-test.true c.from-i.ensures
 
 pub overflow_mul-many : goal.overflow_mul-many
 overflow_mul-many c =
-    let passed = sym c.passes.ensures ∙ c.if-passes.true in
-    let room = front-room c.requires _ _ _ _ _ c.loop-j.invariant.2 c.loop-j-test.true c.number_at-i.ensures c.tables-n.ensures passed in
+    let b = based c.args.base.now in
+    let turn = number_turn b c.requires.table c.numbers_of-r-items.ensures c.loop-r-test.true c.from-i.ensures in
+    let is = number_is b c.requires.table c.numbers_of-r-items.ensures c.loop-r-test.true c.from-i.ensures in
+    let room = front-room b c.requires _ _ _ _ _ c.loop-r.invariant.1 turn is c.tables-n.ensures (sym c.passes.ensures ∙ c.if-passes.true) in
     omega (arith, room, c.well_formed, c.ranges)
 
 pub write_row-requires : goal.write_row-requires
 write_row-requires c =
-    let passed = sym c.passes.ensures ∙ c.if-passes.true in
-    let room = front-room c.requires _ _ _ _ _ c.loop-j.invariant.2 c.loop-j-test.true c.number_at-i.ensures c.tables-n.ensures passed in record {
-      laid = c.requires.based.laid;
-      t_bound = c.requires.table;
-      i_bound = number_in c.requires.based c.requires.table _ _ c.loop-j-test.true c.number_at-i.ensures;
-      columns_value = c.requires.columns-are;
-      columns_in_bounds = omega (arith, c.loop-j.invariant.2.long, room);
+    let b = based c.args.base.now in
+    let turn = number_turn b c.requires.table c.numbers_of-r-items.ensures c.loop-r-test.true c.from-i.ensures in
+    let is = number_is b c.requires.table c.numbers_of-r-items.ensures c.loop-r-test.true c.from-i.ensures in
+    let in_table = number_in b c.requires.table c.numbers_of-r-items.ensures c.loop-r-test.true c.from-i.ensures in
+    let long = row_long b.laid c.requires.table in_table c.row-row.ensures in
+    let room = front-room b c.requires _ _ _ _ _ c.loop-r.invariant.1 turn is c.tables-n.ensures (sym c.passes.ensures ∙ c.if-passes.true) in
+    record {
+      columns_bound = λ k h. rw long (column-in _ _ _ _ c.requires.columns-are h);
+      columns_in_bounds = omega (arith, c.loop-r.invariant.1.long, room);
     }
 
-pub overflow_add-many : goal.overflow_add-many
-overflow_add-many c =
-    omega (arith, span c.requires.based.laid c.requires.table, c.loop-j.invariant.1)
-
-pub loop-j-preserved-then-passes : goal.loop-j-preserved-then-passes
-loop-j-preserved-then-passes c =
-    let passed = sym c.passes.ensures ∙ c.if-passes.true in
-    let hit = front-hit c.requires _ _ _ _ _ c.loop-j.invariant.2 c.loop-j-test.true c.number_at-i.ensures c.tables-n.ensures passed in
-    (omega arith, omega (arith, c.loop-j.invariant.1), hit _ c.write_row.auto.part c.write_row.ensures)
-
-pub loop-j-preserved : goal.loop-j-preserved
-loop-j-preserved c =
-    let failed = sym c.passes.ensures ∙ c.if-passes.false in
-    let miss = front-miss c.requires _ _ _ _ _ c.loop-j.invariant.2 c.loop-j-test.true c.number_at-i.ensures c.tables-n.ensures in
-    (omega arith, omega (arith, c.loop-j.invariant.1), miss failed)
-
-pub shape_of-part : goal.shape_of-part
-shape_of-part c = c.loop-j.invariant.2.long
+pub loop-r-preserved : goal.loop-r-preserved
+loop-r-preserved c =
+    let b = based c.args.base.now in
+    let turn = number_turn b c.requires.table c.numbers_of-r-items.ensures c.loop-r-test.true c.from-i.ensures in
+    let is = number_is b c.requires.table c.numbers_of-r-items.ensures c.loop-r-test.true c.from-i.ensures in
+    elim c.if-passes.branch [
+      | then-passes w ↦
+          rw (w.part-is, w.many-is) (
+            omega (arith, c.loop-r.invariant.0),
+            front-hit b c.requires _ _ _ _ _ c.loop-r.invariant.1 turn is c.tables-n.ensures (sym c.passes.ensures ∙ w.if-passes.true)
+                w.row-row.ensures _ w.write_row.auto.part w.write_row.ensures,
+          )
+      | else-passes w ↦
+          rw (w.part-is, w.many-is) (
+            omega (arith, c.loop-r.invariant.0),
+            front-miss b c.requires _ _ _ _ _ c.loop-r.invariant.1 turn is c.tables-n.ensures (sym c.passes.ensures ∙ w.if-passes.false),
+          )
+    ]
 
 pub returns : goal.returns
 returns c =
-    front-end c.requires _ _ _ c.loop-j-test.false c.loop-j.invariant.2
+    let many = ap length c.numbers_of-r-items.ensures ∙ order-long (based c.args.base.now) c.requires.table in
+    front-end (based c.args.base.now) c.requires _ _ _ (omega (arith, many)) c.loop-r.invariant.1
