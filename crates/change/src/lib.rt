@@ -29,5 +29,5 @@ pub fn change(
     if !store::is_sound(&plan, store) {
         return Err(Refusal::NotSound);
     }
-    change_apply::apply(sheet, plan, store, kind, table as usize, old, new)
+    change_apply::apply(sheet, &plan, store, kind, table as usize, old, new)
 }

@@ -14,14 +14,14 @@ use store::Done;
 // The change that was asked for, by its kind; no other kind passes the tests.
 pub fn apply(
     sheet: &[u64],
-    plan: Plan,
+    plan: &Plan,
     store: &mut [u64],
     kind: u64,
     table: usize,
     old: &[u64],
     new: &[u64],
 ) -> Result<Done, Refusal>
-    requires ready { Ready sheet.now store.old plan }
+    requires ready { Ready sheet.now store.old plan.now }
     requires value { asked_of sheet.now (change_of kind table old.now new.now) ≡ Ok tt }
     ensures { Applies sheet.now store.old (change_of kind table old.now new.now) result store.new }
 {

@@ -24,8 +24,7 @@ use Rattle.side_table.specs.Sides.{Sided}
 use Rattle.change_laws.specs.Ready.{Ready}
 use Rattle.change_laws.proofs.Answers.{says_nothing}
 use Rattle.change_laws.proofs.Halves.{ready-good, ready-table, says_both}
-use Rattle.change_taken.specs.declared.Taken.{Taken}
-use Rattle.change_taken.specs.declared.Taken.TheVariants.{All, Contrary}
+use Rattle.std.specs.Prelude.{Option, Some, None}
 use Rattle.change_taken.specs.Taking.{WaysTaken}
 use Rattle.change_taken.proofs.Lists.{marked-few, list_count, rows_few}
 use Rattle.change_delete.specs.Deletes.{Deletes}
@@ -36,8 +35,8 @@ use Rattle.sheet.specs.declared.refusal.Refusal.TheVariants.{Contradiction}
 -- The rows that are taken: there are few, and their numbers rise
 module _ {ws store : Words} {plan : Plan} (rd : Ready ws store plan) {t : ℕ} {r : Row} (lent : Lent ws t r)
     (list : Part) (lies : Lies (sheet_of ws) (sheet_of ws).n list)
-    (numbers : Words) (a : Taken) (m : WaysTaken ws store t r numbers a) (k : ℕ) (e : a ≡ All k) where
-  so : WaysTaken ws store t r numbers (All k)
+    (numbers : Words) (a : Option ℕ) (m : WaysTaken ws store t r numbers a) (k : ℕ) (e : a ≡ Some k) where
+  so : WaysTaken ws store t r numbers (Some k)
   so = subst (WaysTaken ws store t r numbers) e m
 
   pub taken-few : k ≤ 4096
@@ -74,12 +73,12 @@ module _ {ws store : Words} {plan : Plan} (rd : Ready ws store plan) {t : ℕ} {
                 (delete-none (sheet_of ws) (ready-good rd) store rd.sound t (ready-table rd lent) r o old (sym eq ∙ not-true q f));
           }
 
-      module _ (f : not q ≡ false) (numbers : Words) (a : Taken) (m : WaysTaken ws store t r numbers a) where
+      module _ (f : not q ≡ false) (numbers : Words) (a : Option ℕ) (m : WaysTaken ws store t r numbers a) where
         fine : qualifies (sheet_of ws) (model_of (sheet_of ws) store) t r ≡ true
         fine = sym eq ∙ not-false q f
 
         -- the list does
-        pub deletes-contradicts-list : a ≡ Contrary → Deletes ws store t r (Err Contradiction) store
+        pub deletes-contradicts-list : a ≡ None → Deletes ws store t r (Err Contradiction) store
         deletes-contradicts-list e =
             record {
               says = λ o. says-refused (applied (sheet_of ws) store (change_of 2 t r o)) Contradiction store
@@ -88,7 +87,7 @@ module _ {ws store : Words} {plan : Plan} (rd : Ready ws store plan) {t : ℕ} {
             }
 
         -- its rows leave the list and then its side table
-        module _ (list : Part) (lies : Lies (sheet_of ws) (sheet_of ws).n list) (k : ℕ) (e : a ≡ All k) (mid : Words)
+        module _ (list : Part) (lies : Lies (sheet_of ws) (sheet_of ws).n list) (k : ℕ) (e : a ≡ Some k) (mid : Words)
             (w : Wrote list (spared (is_marked (take k numbers)) (rows_in list store)) store mid) where
           pub deletes-done : (exit : Words) → Sided (sheet_of ws) t (take_rows (side_row (sheet_of ws) t r)) mid exit → Deletes ws store t r (accepts k 0) exit
           deletes-done exit si =

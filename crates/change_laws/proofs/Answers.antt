@@ -1,7 +1,11 @@
 -- The answers of a change below its tests, by its outcome.
 -- Assumes nothing.
 use Prim.Native.Nat.{ℕ}
-use mathlib.Core.Path.{◌≡◌, refl}
+use mathlib.Core.Path.{◌≡◌, refl, ap, ◌∙◌}
+use Rattle.std.specs.Prelude.{Option, None, Result, Err}
+use Rattle.std.specs.Option.{ok_or}
+use Rattle.std.proofs.lemmas.Result.{IfErr-at_err}
+use Rattle.sheet.specs.declared.refusal.Refusal.{Refusal}
 use Rattle.lists.specs.Lists.{Words}
 use Rattle.rows.specs.Rows.{Rows}
 use Rattle.meaning.specs.Answers.{Outcome}
@@ -9,6 +13,10 @@ use Rattle.meaning.specs.Sheet.{Sheet}
 use Rattle.effects.specs.Applied.{done, nothing}
 use Rattle.store.specs.Answers.{accepts, Says}
 use Rattle.store.proofs.Answers.{says-done}
+
+-- where a count is none, what `ok_or` refuses by is what it was given
+pub refused-by : {A : Type 0} (o : Option A) (e f : Refusal) → ◌≡◌ {A = Result A Refusal} (Err e) (ok_or o f) → o ≡ None → e ≡ f
+refused-by o e f h n = IfErr-at_err (λ x. e ≡ x) (h ∙ ap (λ o. ok_or o f) n) refl
 
 -- nothing changes
 pub says_nothing : (o : Outcome) (store : Words) → o ≡ nothing store → Says o (accepts 0 0) store

@@ -21,8 +21,7 @@ use Rattle.walk.specs.Ladders.{ByKey}
 use Rattle.store.proofs.Plans.{marked, unmarked}
 use Rattle.change_laws.specs.Ready.{Ready}
 use Rattle.change_laws.proofs.Halves.{ready-good}
-use Rattle.change_taken.specs.declared.Taken.{Taken}
-use Rattle.change_taken.specs.declared.Taken.TheVariants.{All, Contrary}
+use Rattle.std.specs.Prelude.{Option, Some, None}
 use Rattle.change_taken.specs.Taking.{WaysTaken, FoundTaken}
 use Rattle.change_update.specs.Updates.{can_take_by, ReplacedTaken}
 
@@ -63,12 +62,12 @@ module _ (plan : Plan) (t : ℕ) where
   takes_none d e = rw (ne_eqb t plan.root d, eq-eqb (at plan.kept plan.root) 0 e)
 
 module _ {ws store : Words} {plan : Plan} (rd : Ready ws store plan) (t : ℕ) (r : Row) (numbers : Words) where
-  by-ways : T (can_take (sheet_of ws) t) → (a : Taken) → WaysTaken ws store t r numbers a → ReplacedTaken ws store t r numbers a
-  by-ways can (All k) h =
+  by-ways : T (can_take (sheet_of ws) t) → (a : Option ℕ) → WaysTaken ws store t r numbers a → ReplacedTaken ws store t r numbers a
+  by-ways can (Some k) h =
       let s = sheet_of ws in
       let m = model_of s store in
       rw (replaced-walks s m t r can) (h.0, shows-walks s m t r can, h.1)
-  by-ways can Contrary h = λ q.
+  by-ways can None h = λ q.
       let s = sheet_of ws in
       let m = model_of s store in
       inr (shows-walks s m t r can, rw (replaced-walks s m t r can) h)
@@ -87,16 +86,16 @@ module _ {ws store : Words} {plan : Plan} (rd : Ready ws store plan) (t : ℕ) (
       no h = F→not (eqb (at plan.kept (root (sheet_of ws))) 0) (λ e. unmarked (sheet_of ws) plan rd.planned (root (sheet_of ws)) (ready-good rd).root_in
           (eqb→≡ (at plan.kept (root (sheet_of ws))) 0 e) h)
 
-  pub by-plan : (b : Bool) → b ≡ can_take_by plan t → b ≡ true → (a : Taken) → WaysTaken ws store t r numbers a → ReplacedTaken ws store t r numbers a
+  pub by-plan : (b : Bool) → b ≡ can_take_by plan t → b ≡ true → (a : Option ℕ) → WaysTaken ws store t r numbers a → ReplacedTaken ws store t r numbers a
   by-plan b e can a h = by-ways (is_t (sym take_by ∙ sym e ∙ can)) a h
 
   module _ (b : Bool) (e : b ≡ can_take_by plan t) (no : b ≡ false) where
     pub no_way : ByKey ws t
     no_way = false→F (sym take_by ∙ sym e ∙ no)
 
-    pub by_key : (a : Taken) → FoundTaken ws store t r numbers a → ReplacedTaken ws store t r numbers a
-    by_key (All k) h =
+    pub by_key : (a : Option ℕ) → FoundTaken ws store t r numbers a → ReplacedTaken ws store t r numbers a
+    by_key (Some k) h =
         let s = sheet_of ws in
         let m = model_of s store in
         rw (replaced-found s m t r no_way) (h.0, shows-yes s m t r no_way h.1, h.2)
-    by_key Contrary h = λ q. inl (shows-no (sheet_of ws) (model_of (sheet_of ws) store) t r no_way h q)
+    by_key None h = λ q. inl (shows-no (sheet_of ws) (model_of (sheet_of ws) store) t r no_way h q)

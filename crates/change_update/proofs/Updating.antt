@@ -41,8 +41,7 @@ use Rattle.side_table.specs.Sides.{Replaceable, Sided}
 use Rattle.change_laws.specs.Ready.{Ready}
 use Rattle.change_laws.proofs.Answers.{says_nothing}
 use Rattle.change_laws.proofs.Halves.{ready-good, ready-table, half-side, says_both}
-use Rattle.change_taken.specs.declared.Taken.{Taken}
-use Rattle.change_taken.specs.declared.Taken.TheVariants.{All, Contrary}
+use Rattle.std.specs.Prelude.{Option, Some, None}
 use Rattle.change_update.specs.Updates.{ReplacedTaken, Updates}
 use Rattle.std.specs.Prelude.{Err}
 use Rattle.store.specs.Answers.{accepts}
@@ -71,12 +70,12 @@ module _ {ws store : Words} {plan : Plan} (rd : Ready ws store plan) {t : ℕ} {
                 (update-none (sheet_of ws) (ready-good rd) store rd.sound t (ready-table rd lent) r r' old (sym eq ∙ not-true q f));
           }
 
-      module _ (f : not q ≡ false) (numbers : Words) (a : Taken) (m : ReplacedTaken ws store t r numbers a) where
+      module _ (f : not q ≡ false) (numbers : Words) (a : Option ℕ) (m : ReplacedTaken ws store t r numbers a) where
         fine : qualifies (sheet_of ws) (model_of (sheet_of ws) store) t r ≡ true
         fine = sym eq ∙ not-false q f
 
         -- the list does
-        pub updates-contradicts-list : a ≡ Contrary → Updates ws store t r r' (Err Contradiction) store
+        pub updates-contradicts-list : a ≡ None → Updates ws store t r r' (Err Contradiction) store
         updates-contradicts-list e =
             let s = sheet_of ws in
             record {
@@ -87,8 +86,8 @@ module _ {ws store : Words} {plan : Plan} (rd : Ready ws store plan) {t : ℕ} {
             }
 
         -- the marked rows can be replaced
-        module _ (k : ℕ) (e : a ≡ All k) (list : Part) (lies : Lies (sheet_of ws) (sheet_of ws).n list) where
-          so : ReplacedTaken ws store t r numbers (All k)
+        module _ (k : ℕ) (e : a ≡ Some k) (list : Part) (lies : Lies (sheet_of ws) (sheet_of ws).n list) where
+          so : ReplacedTaken ws store t r numbers (Some k)
           so = subst (ReplacedTaken ws store t r numbers) e m
 
           many : length (rows_at (sheet_of ws) store (sheet_of ws).n) ≡ count_in list store
@@ -126,7 +125,7 @@ module _ {ws store : Words} {plan : Plan} (rd : Ready ws store plan) {t : ℕ} {
               }
 
         -- the list's rows are replaced, and then the side row
-        module _ (ti : Tied (sheet_of ws) t r r') (k : ℕ) (e : a ≡ All k) (list : Part) (lies : Lies (sheet_of ws) (sheet_of ws).n list) (mid : Words)
+        module _ (ti : Tied (sheet_of ws) t r r') (k : ℕ) (e : a ≡ Some k) (list : Part) (lies : Lies (sheet_of ws) (sheet_of ws).n list) (mid : Words)
             (w : RowsReplaced ws t r' (take k numbers) list store mid) where
           pub replaceable : Replaceable (sheet_of ws) mid t r r'
           replaceable =

@@ -1,6 +1,6 @@
 -- What an update below its tests promises, and what is said of the marks on the list rows that it replaces.
 -- Assumes nothing.
-use Rattle.std.specs.Prelude.{ℕ, ◌≡◌, Bool, true, false, not, ◌||◌, ◌⊎◌, eqb, length, take, Result}
+use Rattle.std.specs.Prelude.{Option, Some, None, ℕ, ◌≡◌, Bool, true, false, not, ◌||◌, ◌⊎◌, eqb, length, take, Result}
 use Rattle.lists.specs.Lists.{Words, at}
 use Rattle.rows.specs.Rows.{Row, has_rows}
 use Rattle.meaning.specs.Sheet.{sheet_of}
@@ -10,8 +10,6 @@ use Rattle.meaning.specs.Base.{change_of}
 use Rattle.effects.specs.Applied.{applied, replaced_rows, Marked}
 use Rattle.sheet_plan.specs.declared.Plan.{Plan}
 use Rattle.store.specs.Answers.{Says}
-use Rattle.change_taken.specs.declared.Taken.{Taken}
-use Rattle.change_taken.specs.declared.Taken.TheVariants.{All, Contrary}
 use Rattle.sheet.specs.declared.refusal.Refusal.{Refusal}
 use Rattle.store.specs.declared.Done.{Done}
 
@@ -20,12 +18,12 @@ unfoldable pub can_take_by : Plan → ℕ → Bool
 can_take_by plan t = eqb t plan.root || not (eqb (at plan.kept plan.root) 0)
 
 -- the list rows to be replaced show r's values and are marked by the first k numbers; or, if r is qualified, one shows others or they are not there as often
-abbrev pub ReplacedTaken : Words → Words → ℕ → Row → Words → Taken → Type 0
-ReplacedTaken ws store t r numbers (All k) =
+abbrev pub ReplacedTaken : Words → Words → ℕ → Row → Words → Option ℕ → Type 0
+ReplacedTaken ws store t r numbers (Some k) =
     (k ≡ length (replaced_rows (sheet_of ws) (model_of (sheet_of ws) store) t r))
     × (found_show (sheet_of ws) (model_of (sheet_of ws) store) t r ≡ true)
     × Marked (replaced_rows (sheet_of ws) (model_of (sheet_of ws) store) t r) (rows_at (sheet_of ws) store (sheet_of ws).n) (take k numbers)
-ReplacedTaken ws store t r numbers Contrary =
+ReplacedTaken ws store t r numbers None =
     qualifies (sheet_of ws) (model_of (sheet_of ws) store) t r ≡ true
     → (found_show (sheet_of ws) (model_of (sheet_of ws) store) t r ≡ false)
     ⊎ ((found_show (sheet_of ws) (model_of (sheet_of ws) store) t r ≡ true)

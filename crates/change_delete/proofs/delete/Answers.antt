@@ -4,8 +4,10 @@ use Rattle.list_part.proofs.Lists.{list-kept}
 use Prim.Native.Nat.{ℕ}
 use mathlib.Core.Path.{sym, ap}
 use mathlib.Core.Bool.{not}
+use Rattle.std.proofs.lemmas.Result.{err_from_is_err_and}
 use lib.ListN.{length-replicate}
 use lib.Seq.{length-take-le}
+use Rattle.change_laws.proofs.Answers.{refused-by}
 use Rattle.change_laws.proofs.Halves.{ready-good, ready-ground, ready-list, ready-table, ready-tables, half-modelled}
 use Rattle.change_delete.proofs.Deleting.{taken-few, taken-run, deletes-contradicts-side, deletes-none, deletes-contradicts-list, deletes-done}
 use native.Mathlib.Omega.{arith}
@@ -14,7 +16,7 @@ use Rattle.change_delete.proofs.delete.Goals as goal
 pub is_qualified-qualified-requires : goal.is_qualified-qualified-requires
 is_qualified-qualified-requires c =
     record {
-      sides_laid = (ready-ground c.requires.ready).legible.laid;
+      laid = (ready-ground c.requires.ready).legible.laid;
       lent = c.requires.lent;
     }
 
@@ -45,8 +47,8 @@ part_of-list-requires c =
       tables_le_most_tables = few.0;
     }
 
-pub mark_ways-a-requires : goal.mark_ways-a-requires
-mark_ways-a-requires c =
+pub mark_ways-requires : goal.mark_ways-requires
+mark_ways-requires c =
     record {
       ground = ready-ground c.requires.ready;
       t = c.requires.ready.sound;
@@ -55,32 +57,34 @@ mark_ways-a-requires c =
       marked_len = length-replicate {A = ℕ} 4096 0;
     }
 
-pub returns-in_default : goal.returns-in_default
-returns-in_default c =
-    deletes-contradicts-list c.requires.ready c.requires.lent _ c.is_qualified-qualified.ensures _ c.old_row.ensures (ap not c.if-not-old_row.false)
-    (ap not c.if-not-qualified.false) _ _ c.mark_ways-a.ensures c.in_default.is
+pub returns-in_err-taken : goal.returns-in_err-taken
+returns-in_err-taken c =
+    let p = err_from_is_err_and c.from_residual.result c.from_residual.ensures.1 in
+    rw (p.1, p.2, refused-by _ _ _ c.in_err-taken.ensures.value c.in_err-taken.ensures.ok_part)
+    (deletes-contradicts-list c.requires.ready c.requires.lent _ c.is_qualified-qualified.ensures _ c.old_row.ensures (ap not c.if-not-old_row.false)
+    (ap not c.if-not-qualified.false) _ _ c.mark_ways.ensures c.in_err-taken.ensures.ok_part)
 
 pub slice_bounds-marked-end : goal.slice_bounds-marked-end
 slice_bounds-marked-end c =
     omega (
       arith,
-      taken-few c.requires.ready c.requires.lent _ (ready-list c.requires.ready _ c.part_of-list.ensures) _ _ c.mark_ways-a.ensures _ c.in-All.is,
-      c.mark_ways-a.auto.marked,
+      taken-few c.requires.ready c.requires.lent _ (ready-list c.requires.ready _ c.part_of-list.ensures) _ _ c.mark_ways.ensures _ c.in_ok-taken.ensures.ok_part,
+      c.mark_ways.auto.marked,
     )
 
 pub slice_bounds-take_marked-end : goal.slice_bounds-take_marked-end
 slice_bounds-take_marked-end c =
     sym (length-take-le _ _ (omega (
       arith,
-      taken-few c.requires.ready c.requires.lent _ (ready-list c.requires.ready _ c.part_of-list.ensures) _ _ c.mark_ways-a.ensures _ c.in-All.is,
-      c.mark_ways-a.auto.marked,
+      taken-few c.requires.ready c.requires.lent _ (ready-list c.requires.ready _ c.part_of-list.ensures) _ _ c.mark_ways.ensures _ c.in_ok-taken.ensures.ok_part,
+      c.mark_ways.auto.marked,
     )))
 
 pub take_marked-requires : goal.take_marked-requires
 take_marked-requires c =
     let lies = ready-list c.requires.ready _ c.part_of-list.ensures in record {
       kept = list-kept _ (ready-good c.requires.ready) _ c.requires.ready.sound _ lies;
-      numbers = taken-run c.requires.ready c.requires.lent _ lies _ _ c.mark_ways-a.ensures _ c.in-All.is;
+      numbers = taken-run c.requires.ready c.requires.lent _ lies _ _ c.mark_ways.ensures _ c.in_ok-taken.ensures.ok_part;
     }
 
 pub take_side-requires : goal.take_side-requires
@@ -97,5 +101,5 @@ pub returns : goal.returns
 returns c =
     let lies = ready-list c.requires.ready _ c.part_of-list.ensures in
     deletes-done c.requires.ready c.requires.lent _ c.is_qualified-qualified.ensures _ c.old_row.ensures
-    (ap not c.if-not-old_row.false) (ap not c.if-not-qualified.false) _ _ c.mark_ways-a.ensures _ lies _ c.in-All.is _
+    (ap not c.if-not-old_row.false) (ap not c.if-not-qualified.false) _ _ c.mark_ways.ensures _ lies _ c.in_ok-taken.ensures.ok_part _
     c.take_marked.ensures _ c.take_side.ensures

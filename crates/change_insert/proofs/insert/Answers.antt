@@ -1,9 +1,11 @@
 -- `insert` meets its contract.
 -- Assumes nothing.
+use Rattle.change_laws.proofs.Answers.{refused-by}
 use Rattle.change_laws.proofs.Halves.{ready-ground, ready-list, ready-table, half-modelled}
 use Rattle.change_insert.proofs.Inserting.{inserts-contradicts, inserts-none, inserts-no-room-side, inserts-no-room-list}
 use Rattle.change_insert.proofs.Inserting.{insertable, half_room, inserts-done}
 use mathlib.Core.Path.{ap}
+use Rattle.std.proofs.lemmas.Result.{err_from_is_err_and}
 use mathlib.Core.Bool.{not}
 use Rattle.change_insert.proofs.insert.Goals as goal
 
@@ -23,7 +25,7 @@ returns-then-not-new_key c =
 pub is_qualified-requires : goal.is_qualified-requires
 is_qualified-requires c =
     record {
-      sides_laid = (ready-ground c.requires.ready).legible.laid;
+      laid = (ready-ground c.requires.ready).legible.laid;
       lent = c.requires.lent;
     }
 
@@ -45,8 +47,8 @@ returns-then-not-has_room c =
     inserts-no-room-side c.requires.ready c.requires.lent _ c.new_key.ensures (ap not c.if-not-new_key.false) _
     c.is_qualified.ensures (ap not c.if-not-is_qualified.false) _ c.has_room.ensures (ap not c.if-not-has_room.true)
 
-pub add_ways-added-requires : goal.add_ways-added-requires
-add_ways-added-requires c =
+pub add_ways-requires : goal.add_ways-requires
+add_ways-requires c =
     record {
       ground = ready-ground c.requires.ready;
       lent = c.requires.lent;
@@ -55,7 +57,7 @@ add_ways-added-requires c =
 
 pub put_side-requires : goal.put_side-requires
 put_side-requires c =
-    let gained = rw c.in-All.is at c.add_ways-added.ensures in
+    let gained = rw c.in_ok-added.ensures.ok_part at c.add_ways.ensures in
     let p = insertable c.requires.ready c.requires.lent _ c.new_key.ensures (ap not c.if-not-new_key.false) _ c.is_qualified.ensures
     (ap not c.if-not-is_qualified.false) _ c.has_room.ensures (ap not c.if-not-has_room.false) _ (ready-list c.requires.ready _ c.part_of-list.ensures) _
     gained.0 gained.1 in
@@ -67,17 +69,19 @@ put_side-requires c =
       t = half_room p _ gained.2;
     }
 
-pub returns-in-All : goal.returns-in-All
-returns-in-All c =
-    let gained = rw c.in-All.is at c.add_ways-added.ensures in
+pub returns : goal.returns
+returns c =
+    let gained = rw c.in_ok-added.ensures.ok_part at c.add_ways.ensures in
     let p = insertable c.requires.ready c.requires.lent _ c.new_key.ensures (ap not c.if-not-new_key.false) _ c.is_qualified.ensures
     (ap not c.if-not-is_qualified.false) _ c.has_room.ensures (ap not c.if-not-has_room.false) _ (ready-list c.requires.ready _ c.part_of-list.ensures) _
     gained.0 gained.1 in
     inserts-done p _ gained.2 _ c.put_side.ensures
 
-pub returns-in-NoRoom : goal.returns-in-NoRoom
-returns-in-NoRoom c =
-    let refused = rw c.in-NoRoom.is at c.add_ways-added.ensures in
-    inserts-no-room-list c.requires.ready c.requires.lent _ c.new_key.ensures (ap not c.if-not-new_key.false) _
+pub returns-in_err-added : goal.returns-in_err-added
+returns-in_err-added c =
+    let refused = rw c.in_err-added.ensures.ok_part at c.add_ways.ensures in
+    let p = err_from_is_err_and c.from_residual.result c.from_residual.ensures.1 in
+    rw (p.1, p.2, refused-by _ _ _ c.in_err-added.ensures.value c.in_err-added.ensures.ok_part)
+    (inserts-no-room-list c.requires.ready c.requires.lent _ c.new_key.ensures (ap not c.if-not-new_key.false) _
     c.is_qualified.ensures (ap not c.if-not-is_qualified.false) _ c.has_room.ensures (ap not c.if-not-has_room.false) _
-    (ready-list c.requires.ready _ c.part_of-list.ensures) refused.0 _ refused.1
+    (ready-list c.requires.ready _ c.part_of-list.ensures) refused.0 _ refused.1)

@@ -1,8 +1,10 @@
 -- `update` meets its contract.
 -- Assumes nothing.
 use mathlib.Core.Bool.{not}
+use Rattle.std.proofs.lemmas.Result.{err_from_is_err_and}
 use mathlib.Core.Path.{refl, sym, ap}
 use lib.Seq.{length-take-le}
+use Rattle.change_laws.proofs.Answers.{refused-by}
 use Rattle.change_laws.proofs.Halves.{ready-ground, ready-list, ready-table, ready-tables, half-modelled}
 use Rattle.change_taken.proofs.Finding.{fits-lent}
 use Rattle.change_update.proofs.Updating.{updates-contradicts-side, updates-none, updates-contradicts-list}
@@ -14,7 +16,7 @@ use Rattle.change_update.proofs.update.Goals as goal
 pub is_qualified-qualified-requires : goal.is_qualified-qualified-requires
 is_qualified-qualified-requires c =
     record {
-      sides_laid = (ready-ground c.requires.ready).legible.laid;
+      laid = (ready-ground c.requires.ready).legible.laid;
       lent = c.requires.lent;
     }
 
@@ -45,8 +47,8 @@ part_of-list-requires c =
       tables_le_most_tables = few.0;
     }
 
-pub mark_replaced-a-requires : goal.mark_replaced-a-requires
-mark_replaced-a-requires c =
+pub mark_replaced-requires : goal.mark_replaced-requires
+mark_replaced-requires c =
     record {
       ready = c.requires.ready;
       lies = ready-list c.requires.ready _ c.part_of-list.ensures;
@@ -54,22 +56,24 @@ mark_replaced-a-requires c =
       marked_len = refl;
     }
 
-pub returns-in_default : goal.returns-in_default
-returns-in_default c =
-    updates-contradicts-list c.requires.ready c.requires.lent _ _ c.is_qualified-qualified.ensures _ c.old_row.ensures (ap not c.if-not-old_row.false)
-    (ap not c.if-not-qualified.false) _ _ c.mark_replaced-a.ensures c.in_default.is
+pub returns-in_err-k : goal.returns-in_err-k
+returns-in_err-k c =
+    let p = err_from_is_err_and c.from_residual.result c.from_residual.ensures.1 in
+    rw (p.1, p.2, refused-by _ _ _ c.in_err-k.ensures.value c.in_err-k.ensures.ok_part)
+    (updates-contradicts-list c.requires.ready c.requires.lent _ _ c.is_qualified-qualified.ensures _ c.old_row.ensures (ap not c.if-not-old_row.false)
+    (ap not c.if-not-qualified.false) _ _ c.mark_replaced.ensures c.in_err-k.ensures.ok_part)
 
 pub slice_bounds-marked-end : goal.slice_bounds-marked-end
 slice_bounds-marked-end c =
     numbers-few c.requires.ready c.requires.lent c.args.new.now _ c.is_qualified-qualified.ensures _ c.old_row.ensures (ap not c.if-not-old_row.false)
-    (ap not c.if-not-qualified.false) _ _ c.mark_replaced-a.ensures _ c.in-All.is _
+    (ap not c.if-not-qualified.false) _ _ c.mark_replaced.ensures _ c.in_ok-k.ensures.ok_part _
     (ready-list c.requires.ready _ c.part_of-list.ensures) 4096 (search rules) (omega arith)
 
 pub slice_bounds-replace_rows-end : goal.slice_bounds-replace_rows-end
 slice_bounds-replace_rows-end c =
     let within : _ =
     numbers-few c.requires.ready c.requires.lent c.args.new.now _ c.is_qualified-qualified.ensures _ c.old_row.ensures (ap not c.if-not-old_row.false)
-    (ap not c.if-not-qualified.false) _ _ c.mark_replaced-a.ensures _ c.in-All.is _
+    (ap not c.if-not-qualified.false) _ _ c.mark_replaced.ensures _ c.in_ok-k.ensures.ok_part _
     (ready-list c.requires.ready _ c.part_of-list.ensures) 4096 (search rules) (omega arith) in
     sym (length-take-le _ _ within)
 
@@ -77,11 +81,11 @@ pub replace_rows-requires : goal.replace_rows-requires
 replace_rows-requires c =
     let lies = ready-list c.requires.ready _ c.part_of-list.ensures in record {
       replaceable = rows-replaceable c.requires.ready c.requires.lent _ _ c.is_qualified-qualified.ensures _ c.old_row.ensures (ap not c.if-not-old_row.false)
-          (ap not c.if-not-qualified.false) _ _ c.mark_replaced-a.ensures _ c.in-All.is _ lies c.requires.lent_2;
+          (ap not c.if-not-qualified.false) _ _ c.mark_replaced.ensures _ c.in_ok-k.ensures.ok_part _ lies c.requires.lent_2;
       fits = fits-lent _ _ _ c.requires.lent;
       all_show = rows-show c.requires.ready c.requires.lent c.args.new.now _ c.is_qualified-qualified.ensures _ c.old_row.ensures
           (ap not c.if-not-old_row.false)
-          (ap not c.if-not-qualified.false) _ _ c.mark_replaced-a.ensures _ c.in-All.is _ lies;
+          (ap not c.if-not-qualified.false) _ _ c.mark_replaced.ensures _ c.in_ok-k.ensures.ok_part _ lies;
     }
 
 pub replace_side-requires : goal.replace_side-requires
@@ -93,7 +97,7 @@ replace_side-requires c =
       len_2 = c.requires.lent_2.wide;
       modelled = half-modelled c.requires.ready _ lies _ _ c.replace_rows.ensures;
       replaceable = replaceable c.requires.ready c.requires.lent _ _ c.is_qualified-qualified.ensures _ c.old_row.ensures (ap not c.if-not-old_row.false)
-          (ap not c.if-not-qualified.false) _ _ c.mark_replaced-a.ensures c.requires.tied _ c.in-All.is _ lies _
+          (ap not c.if-not-qualified.false) _ _ c.mark_replaced.ensures c.requires.tied _ c.in_ok-k.ensures.ok_part _ lies _
           c.replace_rows.ensures;
     }
 
@@ -101,5 +105,5 @@ pub returns : goal.returns
 returns c =
     let lies = ready-list c.requires.ready _ c.part_of-list.ensures in
     updates-done c.requires.ready c.requires.lent _ _ c.is_qualified-qualified.ensures _ c.old_row.ensures (ap not c.if-not-old_row.false)
-    (ap not c.if-not-qualified.false) _ _ c.mark_replaced-a.ensures c.requires.tied _ c.in-All.is _ lies _ c.replace_rows.ensures _
+    (ap not c.if-not-qualified.false) _ _ c.mark_replaced.ensures c.requires.tied _ c.in_ok-k.ensures.ok_part _ lies _ c.replace_rows.ensures _
     c.replace_side.ensures
