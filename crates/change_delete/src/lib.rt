@@ -10,7 +10,13 @@ use sheet_plan::Plan;
 use store::Done;
 
 // Row leaves its table, if it is qualified: its shown columns the side table, and a row for each way through it the list.
-pub fn delete(sheet: &[u64], plan: &Plan, store: &mut [u64], table: usize, row: &[u64]) -> Result<Done, Refusal>
+pub fn delete(
+    sheet: &[u64],
+    plan: &Plan,
+    store: &mut [u64],
+    table: usize,
+    row: &[u64],
+) -> Result<Done, Refusal>
     requires ready { Ready sheet.now store.old plan.now }
     requires lent { Lent sheet.now table row.now }
     ensures { Deletes sheet.now store.old table row.now result store.new }
@@ -24,8 +30,8 @@ pub fn delete(sheet: &[u64], plan: &Plan, store: &mut [u64], table: usize, row: 
     }
     let list = store::part_of(plan, plan.tables);
     let mut marked = [0u16; ROOM];
-    let taken = change_taken::mark_ways(sheet, plan, store, list, table, row, &mut marked)
-        .ok_or(Refusal::Contradiction)?;
+    let count = change_taken::mark_ways(sheet, plan, store, list, table, row, &mut marked);
+    let taken = count.ok_or(Refusal::Contradiction)?;
     store::take_marked(store, list, &marked[..taken]);
     side_table::take_side(sheet, plan, store, table, row);
     Ok(Done {

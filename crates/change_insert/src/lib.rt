@@ -31,9 +31,8 @@ pub fn insert(
         return Err(Refusal::NoRoom);
     }
     let list = store::part_of(plan, plan.tables);
-    let added = change_added::add_ways(sheet, plan, store, list, table, row).ok_or(
-        Refusal::NoRoom,
-    )?;
+    let count = change_added::add_ways(sheet, plan, store, list, table, row);
+    let added = count.ok_or(Refusal::NoRoom)?;
     side_table::put_side(sheet, plan, store, table, row);
     Ok(Done {
         taken: 0,

@@ -45,21 +45,13 @@ module _ (s : Sheet) (m : Model) (t : ℕ) (r : Row) (no_way : T (can_take s t) 
 
 -- what the plan says of ways
 module _ (plan : Plan) (t : ℕ) where
-  pub takes-root : t ≡ plan.root → true ≡ can_take_by plan t
+  pub takes-root : t ≡ plan.root → eqb t plan.root ≡ can_take_by plan t
   unfolding can_take_by
-  takes-root e = rw (eq-eqb t plan.root e)
+  takes-root e = rw (eq-eqb t plan.root e) refl
 
-  pub takes-kept : (at plan.kept plan.root ≡ 0 → ⊥) → true ≡ can_take_by plan t
+  pub takes-kept : (t ≡ plan.root → ⊥) → not (eqb (at plan.kept plan.root) 0) ≡ can_take_by plan t
   unfolding can_take_by
-  takes-kept d = rw (ne_eqb (at plan.kept plan.root) 0 d) (either (eqb t plan.root))
-    where
-      either : (b : Bool) → true ≡ (b || true)
-      either true = refl
-      either false = refl
-
-  pub takes_none : (t ≡ plan.root → ⊥) → at plan.kept plan.root ≡ 0 → false ≡ can_take_by plan t
-  unfolding can_take_by
-  takes_none d e = rw (ne_eqb t plan.root d, eq-eqb (at plan.kept plan.root) 0 e)
+  takes-kept d = rw (ne_eqb t plan.root d) refl
 
 module _ {ws store : Words} {plan : Plan} (rd : Ready ws store plan) (t : ℕ) (r : Row) (numbers : Words) where
   by-ways : T (can_take (sheet_of ws) t) → (a : Option ℕ) → WaysTaken ws store t r numbers a → ReplacedTaken ws store t r numbers a

@@ -68,8 +68,8 @@ pub fn update(
     }
     let list = store::part_of(plan, plan.tables);
     let mut marked = [0u16; ROOM];
-    let k = mark_replaced(sheet, plan, store, list, table, old, &mut marked)
-        .ok_or(Refusal::Contradiction)?;
+    let count = mark_replaced(sheet, plan, store, list, table, old, &mut marked);
+    let k = count.ok_or(Refusal::Contradiction)?;
     list_part::replace_rows(sheet, store, list, &marked[..k], table, old, new);
     side_table::replace_side(sheet, plan, store, table, old, new);
     Ok(Done {

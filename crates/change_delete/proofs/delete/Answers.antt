@@ -47,8 +47,8 @@ part_of-list-requires c =
       tables_le_most_tables = few.0;
     }
 
-pub mark_ways-requires : goal.mark_ways-requires
-mark_ways-requires c =
+pub mark_ways-count-requires : goal.mark_ways-count-requires
+mark_ways-count-requires c =
     record {
       ground = ready-ground c.requires.ready;
       t = c.requires.ready.sound;
@@ -62,29 +62,29 @@ returns-in_err-taken c =
     let p = err_from_is_err_and c.from_residual.result c.from_residual.ensures.1 in
     rw (p.1, p.2, refused-by _ _ _ c.in_err-taken.ensures.value c.in_err-taken.ensures.ok_part)
     (deletes-contradicts-list c.requires.ready c.requires.lent _ c.is_qualified-qualified.ensures _ c.old_row.ensures (ap not c.if-not-old_row.false)
-    (ap not c.if-not-qualified.false) _ _ c.mark_ways.ensures c.in_err-taken.ensures.ok_part)
+    (ap not c.if-not-qualified.false) _ _ c.mark_ways-count.ensures c.in_err-taken.ensures.ok_part)
 
 pub slice_bounds-marked-end : goal.slice_bounds-marked-end
 slice_bounds-marked-end c =
     omega (
       arith,
-      taken-few c.requires.ready c.requires.lent _ (ready-list c.requires.ready _ c.part_of-list.ensures) _ _ c.mark_ways.ensures _ c.in_ok-taken.ensures.ok_part,
-      c.mark_ways.auto.marked,
+      taken-few c.requires.ready c.requires.lent _ (ready-list c.requires.ready _ c.part_of-list.ensures) _ _ c.mark_ways-count.ensures _ c.in_ok-taken.ensures.ok_part,
+      c.mark_ways-count.auto.marked,
     )
 
 pub slice_bounds-take_marked-end : goal.slice_bounds-take_marked-end
 slice_bounds-take_marked-end c =
     sym (length-take-le _ _ (omega (
       arith,
-      taken-few c.requires.ready c.requires.lent _ (ready-list c.requires.ready _ c.part_of-list.ensures) _ _ c.mark_ways.ensures _ c.in_ok-taken.ensures.ok_part,
-      c.mark_ways.auto.marked,
+      taken-few c.requires.ready c.requires.lent _ (ready-list c.requires.ready _ c.part_of-list.ensures) _ _ c.mark_ways-count.ensures _ c.in_ok-taken.ensures.ok_part,
+      c.mark_ways-count.auto.marked,
     )))
 
 pub take_marked-requires : goal.take_marked-requires
 take_marked-requires c =
     let lies = ready-list c.requires.ready _ c.part_of-list.ensures in record {
       kept = list-kept _ (ready-good c.requires.ready) _ c.requires.ready.sound _ lies;
-      numbers = taken-run c.requires.ready c.requires.lent _ lies _ _ c.mark_ways.ensures _ c.in_ok-taken.ensures.ok_part;
+      numbers = taken-run c.requires.ready c.requires.lent _ lies _ _ c.mark_ways-count.ensures _ c.in_ok-taken.ensures.ok_part;
     }
 
 pub take_side-requires : goal.take_side-requires
@@ -101,5 +101,5 @@ pub returns : goal.returns
 returns c =
     let lies = ready-list c.requires.ready _ c.part_of-list.ensures in
     deletes-done c.requires.ready c.requires.lent _ c.is_qualified-qualified.ensures _ c.old_row.ensures
-    (ap not c.if-not-old_row.false) (ap not c.if-not-qualified.false) _ _ c.mark_ways.ensures _ lies _ c.in_ok-taken.ensures.ok_part _
+    (ap not c.if-not-old_row.false) (ap not c.if-not-qualified.false) _ _ c.mark_ways-count.ensures _ lies _ c.in_ok-taken.ensures.ok_part _
     c.take_marked.ensures _ c.take_side.ensures

@@ -47,8 +47,8 @@ returns-then-not-has_room c =
     inserts-no-room-side c.requires.ready c.requires.lent _ c.new_key.ensures (ap not c.if-not-new_key.false) _
     c.is_qualified.ensures (ap not c.if-not-is_qualified.false) _ c.has_room.ensures (ap not c.if-not-has_room.true)
 
-pub add_ways-requires : goal.add_ways-requires
-add_ways-requires c =
+pub add_ways-count-requires : goal.add_ways-count-requires
+add_ways-count-requires c =
     record {
       ground = ready-ground c.requires.ready;
       lent = c.requires.lent;
@@ -57,7 +57,7 @@ add_ways-requires c =
 
 pub put_side-requires : goal.put_side-requires
 put_side-requires c =
-    let gained = rw c.in_ok-added.ensures.ok_part at c.add_ways.ensures in
+    let gained = rw c.in_ok-added.ensures.ok_part at c.add_ways-count.ensures in
     let p = insertable c.requires.ready c.requires.lent _ c.new_key.ensures (ap not c.if-not-new_key.false) _ c.is_qualified.ensures
     (ap not c.if-not-is_qualified.false) _ c.has_room.ensures (ap not c.if-not-has_room.false) _ (ready-list c.requires.ready _ c.part_of-list.ensures) _
     gained.0 gained.1 in
@@ -71,7 +71,7 @@ put_side-requires c =
 
 pub returns : goal.returns
 returns c =
-    let gained = rw c.in_ok-added.ensures.ok_part at c.add_ways.ensures in
+    let gained = rw c.in_ok-added.ensures.ok_part at c.add_ways-count.ensures in
     let p = insertable c.requires.ready c.requires.lent _ c.new_key.ensures (ap not c.if-not-new_key.false) _ c.is_qualified.ensures
     (ap not c.if-not-is_qualified.false) _ c.has_room.ensures (ap not c.if-not-has_room.false) _ (ready-list c.requires.ready _ c.part_of-list.ensures) _
     gained.0 gained.1 in
@@ -79,7 +79,7 @@ returns c =
 
 pub returns-in_err-added : goal.returns-in_err-added
 returns-in_err-added c =
-    let refused = rw c.in_err-added.ensures.ok_part at c.add_ways.ensures in
+    let refused = rw c.in_err-added.ensures.ok_part at c.add_ways-count.ensures in
     let p = err_from_is_err_and c.from_residual.result c.from_residual.ensures.1 in
     rw (p.1, p.2, refused-by _ _ _ c.in_err-added.ensures.value c.in_err-added.ensures.ok_part)
     (inserts-no-room-list c.requires.ready c.requires.lent _ c.new_key.ensures (ap not c.if-not-new_key.false) _

@@ -1,13 +1,10 @@
 -- `can_take` meets its contract.
 -- Assumes nothing.
-use Rattle.change_update.proofs.Replaced.{takes-root, takes-kept, takes_none}
+use Rattle.change_update.proofs.Replaced.{takes-root, takes-kept}
 use Rattle.change_update.proofs.can_take.Goals as goal
 
-pub returns-then-table-root : goal.returns-then-table-root
-returns-then-table-root c = takes-root _ _ c.if-table-root.true
+pub returns-then-table-plan : goal.returns-then-table-plan
+returns-then-table-plan c = takes-root _ _ c.if-table-plan.true
 
-pub returns-then-plan-root-ne0 : goal.returns-then-plan-root-ne0
-returns-then-plan-root-ne0 c = takes-kept _ _ c.if-plan-root-ne0.true
-
-pub returns : goal.returns
-returns c = takes_none _ _ c.if-table-root.false c.if-plan-root-ne0.false
+pub returns-else-table-plan : goal.returns-else-table-plan
+returns-else-table-plan c = takes-kept _ _ c.if-table-plan.false

@@ -47,8 +47,8 @@ part_of-list-requires c =
       tables_le_most_tables = few.0;
     }
 
-pub mark_replaced-requires : goal.mark_replaced-requires
-mark_replaced-requires c =
+pub mark_replaced-count-requires : goal.mark_replaced-count-requires
+mark_replaced-count-requires c =
     record {
       ready = c.requires.ready;
       lies = ready-list c.requires.ready _ c.part_of-list.ensures;
@@ -61,19 +61,19 @@ returns-in_err-k c =
     let p = err_from_is_err_and c.from_residual.result c.from_residual.ensures.1 in
     rw (p.1, p.2, refused-by _ _ _ c.in_err-k.ensures.value c.in_err-k.ensures.ok_part)
     (updates-contradicts-list c.requires.ready c.requires.lent _ _ c.is_qualified-qualified.ensures _ c.old_row.ensures (ap not c.if-not-old_row.false)
-    (ap not c.if-not-qualified.false) _ _ c.mark_replaced.ensures c.in_err-k.ensures.ok_part)
+    (ap not c.if-not-qualified.false) _ _ c.mark_replaced-count.ensures c.in_err-k.ensures.ok_part)
 
 pub slice_bounds-marked-end : goal.slice_bounds-marked-end
 slice_bounds-marked-end c =
     numbers-few c.requires.ready c.requires.lent c.args.new.now _ c.is_qualified-qualified.ensures _ c.old_row.ensures (ap not c.if-not-old_row.false)
-    (ap not c.if-not-qualified.false) _ _ c.mark_replaced.ensures _ c.in_ok-k.ensures.ok_part _
+    (ap not c.if-not-qualified.false) _ _ c.mark_replaced-count.ensures _ c.in_ok-k.ensures.ok_part _
     (ready-list c.requires.ready _ c.part_of-list.ensures) 4096 (search rules) (omega arith)
 
 pub slice_bounds-replace_rows-end : goal.slice_bounds-replace_rows-end
 slice_bounds-replace_rows-end c =
     let within : _ =
     numbers-few c.requires.ready c.requires.lent c.args.new.now _ c.is_qualified-qualified.ensures _ c.old_row.ensures (ap not c.if-not-old_row.false)
-    (ap not c.if-not-qualified.false) _ _ c.mark_replaced.ensures _ c.in_ok-k.ensures.ok_part _
+    (ap not c.if-not-qualified.false) _ _ c.mark_replaced-count.ensures _ c.in_ok-k.ensures.ok_part _
     (ready-list c.requires.ready _ c.part_of-list.ensures) 4096 (search rules) (omega arith) in
     sym (length-take-le _ _ within)
 
@@ -81,11 +81,11 @@ pub replace_rows-requires : goal.replace_rows-requires
 replace_rows-requires c =
     let lies = ready-list c.requires.ready _ c.part_of-list.ensures in record {
       replaceable = rows-replaceable c.requires.ready c.requires.lent _ _ c.is_qualified-qualified.ensures _ c.old_row.ensures (ap not c.if-not-old_row.false)
-          (ap not c.if-not-qualified.false) _ _ c.mark_replaced.ensures _ c.in_ok-k.ensures.ok_part _ lies c.requires.lent_2;
+          (ap not c.if-not-qualified.false) _ _ c.mark_replaced-count.ensures _ c.in_ok-k.ensures.ok_part _ lies c.requires.lent_2;
       fits = fits-lent _ _ _ c.requires.lent;
       all_show = rows-show c.requires.ready c.requires.lent c.args.new.now _ c.is_qualified-qualified.ensures _ c.old_row.ensures
           (ap not c.if-not-old_row.false)
-          (ap not c.if-not-qualified.false) _ _ c.mark_replaced.ensures _ c.in_ok-k.ensures.ok_part _ lies;
+          (ap not c.if-not-qualified.false) _ _ c.mark_replaced-count.ensures _ c.in_ok-k.ensures.ok_part _ lies;
     }
 
 pub replace_side-requires : goal.replace_side-requires
@@ -97,7 +97,7 @@ replace_side-requires c =
       len_2 = c.requires.lent_2.wide;
       modelled = half-modelled c.requires.ready _ lies _ _ c.replace_rows.ensures;
       replaceable = replaceable c.requires.ready c.requires.lent _ _ c.is_qualified-qualified.ensures _ c.old_row.ensures (ap not c.if-not-old_row.false)
-          (ap not c.if-not-qualified.false) _ _ c.mark_replaced.ensures c.requires.tied _ c.in_ok-k.ensures.ok_part _ lies _
+          (ap not c.if-not-qualified.false) _ _ c.mark_replaced-count.ensures c.requires.tied _ c.in_ok-k.ensures.ok_part _ lies _
           c.replace_rows.ensures;
     }
 
@@ -105,5 +105,5 @@ pub returns : goal.returns
 returns c =
     let lies = ready-list c.requires.ready _ c.part_of-list.ensures in
     updates-done c.requires.ready c.requires.lent _ _ c.is_qualified-qualified.ensures _ c.old_row.ensures (ap not c.if-not-old_row.false)
-    (ap not c.if-not-qualified.false) _ _ c.mark_replaced.ensures c.requires.tied _ c.in_ok-k.ensures.ok_part _ lies _ c.replace_rows.ensures _
+    (ap not c.if-not-qualified.false) _ _ c.mark_replaced-count.ensures c.requires.tied _ c.in_ok-k.ensures.ok_part _ lies _ c.replace_rows.ensures _
     c.replace_side.ensures
