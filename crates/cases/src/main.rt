@@ -18,7 +18,8 @@ mod largest;
 ghost use Rattle.std.specs.Prelude.{◌<◌, ◌≤◌, length};
 
 use reading::read_full;
-use store::Answer;
+use sheet::Refusal;
+use store::Done;
 use text::Reader;
 
 // What a line that is no comment asks for.
@@ -43,27 +44,19 @@ struct Size {
 }
 
 fn read(text: &[u8]) -> Reader {
-    let r = Reader::new();
-    let s = r.take_chunk(text);
-    s.finish()
+    Reader::new().take_chunk(text).finish()
 }
 
 // The numbers that a text says, 146 at most, and zeros behind them.
 fn words_of(text: &[u8]) -> [u64; 146] {
-    let r = read(text);
-    let words = r.words;
-    words
+    read(text).words
 }
 
 // How many they are.
 fn count_of(text: &[u8]) -> usize
     ensures { result ≤ 146 }
 {
-    let r = read(text);
-    if 146 < r.many {
-        return 146;
-    }
-    r.many
+    read(text).many.min(146)
 }
 
 // Writes to standard output. A write that fails is passed over.
@@ -88,18 +81,10 @@ fn print_part(rt: &impl Print, words: &[u64]) {
 }
 
 // The number, taken and added.
-fn print_answer(rt: &impl Print, answer: Answer) {
+fn print_answer(rt: &impl Print, answer: Result<Done, Refusal>) {
+    let done = answer.unwrap_or_default();
     print(rt, b":");
-    match answer {
-        Answer::Done(taken, added) => {
-            let three = [0, taken, added];
-            print_words(rt, &three);
-        }
-        Answer::Refused(number) => {
-            let three = [number, 0, 0];
-            print_words(rt, &three);
-        }
-    }
+    print_words(rt, &[sheet::number_of(answer), done.taken, done.added]);
 }
 
 fn print_kind(rt: &impl Print, kind: u64) {
@@ -112,8 +97,7 @@ fn print_kind(rt: &impl Print, kind: u64) {
 }
 
 fn print_shown(rt: &impl Print, sheet: &[u64], store: &[u64], number: u64) {
-    let mut refusal: u64 = 0;
-    let words = store::show(sheet, store, number, &mut refusal);
+    let words = store::show(sheet, store, number).unwrap_or_default();
     print_part(rt, words);
 }
 
@@ -151,10 +135,7 @@ fn change_of(rt: &impl Print, sheet: &[u64], store: &mut [u64], words: &[u64]) {
     let kind = words[0];
     let table = words[1];
     let left = (end - 4) as u64;
-    if left < words[2] {
-        return;
-    }
-    if left - words[2] != words[3] {
+    if left < words[2] || left - words[2] != words[3] {
         return;
     }
     let middle = 4 + words[2] as usize;
@@ -182,13 +163,12 @@ fn show(rt: &impl Print, sheet: &[u64], store: &[u64], words: &[u64]) {
         return;
     }
     let number = words[0];
-    let mut refusal: u64 = 99;
-    let part = store::show(sheet, store, number, &mut refusal);
+    let part = store::show(sheet, store, number);
     print(rt, b"show");
     print_word(rt, number);
     print(rt, b":");
-    print_word(rt, refusal);
-    print_part(rt, part);
+    print_word(rt, sheet::number_of(part));
+    print_part(rt, part.unwrap_or_default());
 }
 
 // The counts, the first two rows of the list and its last.
@@ -238,10 +218,7 @@ fn call_line(
     let many = count_of(numbers);
     let m = size.sheet;
     let n = size.store;
-    if sheet.len() < m {
-        return;
-    }
-    if store.len() < n {
+    if sheet.len() < m || store.len() < n {
         return;
     }
     call(rt, line, &sheet[..m], &mut store[..n], &words[..many]);
@@ -250,23 +227,15 @@ fn call_line(
 
 // The length of the store of a good sheet; if there is no room for it, or of any other sheet, the length that was.
 fn length_for(sheet: &[u64], was: usize) -> usize {
-    let checked = sheet_plan::check(sheet);
-    let plan = checked.plan;
-    if plan.tables == 0 {
-        return was;
+    match sheet_plan::check(sheet) {
+        Ok(plan) if plan.store <= 146 => plan.store,
+        _ => was,
     }
-    if 146 < plan.store {
-        return was;
-    }
-    plan.store
 }
 
 fn copy(words: &[u64], to: &mut [u64]) {
-    for (i, word) in words.iter().enumerate() {
-        if to.len() <= i {
-            return;
-        }
-        to[i] = *word;
+    for (place, word) in to.iter_mut().zip(words) {
+        *place = *word;
     }
 }
 
@@ -298,10 +267,7 @@ fn store_line(numbers: &[u8], store: &mut [u64]) {
 }
 
 fn every_line(numbers: &[u8], store: &mut [u64]) {
-    let words = words_of(numbers);
-    let word = words[0];
-    let every = [word; 146];
-    copy(&every, store);
+    store.fill(words_of(numbers)[0]);
 }
 
 fn put_line(numbers: &[u8], store: &mut [u64]) {
@@ -332,49 +298,28 @@ fn run_line(
     size
 }
 
-// Whether a line is this word, or begins with it.
-fn begins(line: &[u8], word: &[u8]) -> bool {
-    line.starts_with(word)
-}
-
-fn kind_of(line: &[u8]) -> Line {
-    if begins(line, b"sheet") {
-        return Line::Sheet;
+// The word that a line begins with says its kind.
+fn kind_of(word: &[u8]) -> Line {
+    match word {
+        b"sheet" => Line::Sheet,
+        b"long" => Line::Long,
+        b"store" => Line::Store,
+        b"every" => Line::Every,
+        b"put" => Line::Put,
+        b"fill" => Line::Fill,
+        b"show" => Line::Show,
+        b"largest" => Line::Largest,
+        _ => Line::Change,
     }
-    if begins(line, b"long") {
-        return Line::Long;
-    }
-    if begins(line, b"store") {
-        return Line::Store;
-    }
-    if begins(line, b"every") {
-        return Line::Every;
-    }
-    if begins(line, b"put") {
-        return Line::Put;
-    }
-    if begins(line, b"fill") {
-        return Line::Fill;
-    }
-    if begins(line, b"show") {
-        return Line::Show;
-    }
-    if begins(line, b"largest") {
-        return Line::Largest;
-    }
-    Line::Change
 }
 
 // Where the letters that a line begins with end.
 fn letters_end(line: &[u8]) -> usize
     ensures { result ≤ length line.now }
 {
-    for (end, letter) in line.iter().enumerate() {
-        if *letter < b'a' {
-            return end;
-        }
-    }
-    line.len()
+    line.iter()
+        .position(|&letter| letter < b'a')
+        .unwrap_or(line.len())
 }
 
 fn comment_or_line(
@@ -384,36 +329,20 @@ fn comment_or_line(
     store: &mut [u64],
     size: Size,
 ) -> Size {
-    if begins(line, b"#") {
+    if line.starts_with(b"#") {
         print(rt, line);
         print(rt, b"\n");
         return size;
     }
-    let kind = kind_of(line);
-    let numbers = letters_end(line);
-    run_line(rt, kind, &line[numbers..], sheet, store, size)
-}
-
-// Where the line that begins at `from` ends.
-fn line_end(text: &[u8], from: usize) -> usize
-    requires { from < length text.now }
-    ensures { (from ≤ result) × (result ≤ length text.now) }
-{
-    for end in from..text.len() {
-        if text[end] == b'\n' {
-            return end;
-        }
-    }
-    text.len()
+    let (word, numbers) = line.split_at(letters_end(line));
+    run_line(rt, kind_of(word), numbers, sheet, store, size)
 }
 
 fn run(rt: &impl Print, text: &[u8], sheet: &mut [u64], store: &mut [u64]) {
     let mut size = Size { sheet: 0, store: 0 };
-    let mut at = 0;
-    while at < text.len() {
-        let end = line_end(text, at);
-        size = comment_or_line(rt, &text[at..end], sheet, store, size);
-        at = end + 1;
+    for line in text.split_inclusive(|&byte| byte == b'\n') {
+        let line = line.strip_suffix(b"\n").unwrap_or(line);
+        size = comment_or_line(rt, line, sheet, store, size);
     }
 }
 

@@ -13,7 +13,7 @@ use Rattle.lists.specs.Loops.{every}
 use Rattle.lists.proofs.Truth.{is_t}
 use Rattle.lists.proofs.Loops.{every-at}
 use Rattle.meaning.specs.Sheet.{sheet_of, room, table_count}
-use Rattle.meaning.specs.Base.{base_of, good_base}
+use Rattle.meaning.specs.Base.{base_of, good_base, lawful}
 use Rattle.meaning.specs.Meaning.{side_table, the_list, meaning}
 use Rattle.meaning.specs.Store.{fits}
 use Rattle.meaning.specs.Fill.{fill, filled}
@@ -31,33 +31,27 @@ use Rattle.walk.specs.Routes.{route_of}
 use Rattle.filling.specs.Written.{side_fits, list_fits}
 use Rattle.filling.proofs.Outcomes.{fill-no-room, fill_done, fits-is}
 use Rattle.store.proofs.Plans.{list-lies}
-use Rattle.base_run.specs.Bases.{tables_of}
+use Rattle.base_run.specs.Bases.{tables_of, Laid}
 use Rattle.base_run.proofs.Steps.{good_of}
-use Rattle.base_qualified.specs.Qualifying.{Based}
-use Rattle.base_qualified.proofs.Bases.{lawful-based}
 use Rattle.fill_sides.specs.Sides.{fits_no, partly_of}
 use Rattle.fill_sides.proofs.Whole.{fits_all, none_written, all-written}
+use Rattle.fill.proofs.Counted.{run-good}
 use Rattle.fill.proofs.Outcomes.{lawful-is}
-use Rattle.fill_list.specs.Putting.{Rooted, Blank}
+use Rattle.fill_list.specs.Putting.{Blank}
 use Rattle.fill_list.proofs.Counts.{lawful-tables}
 use Rattle.fill_list.proofs.Grounds.{sides-sound, planned-ground}
-use Rattle.fill.specs.Tested.{Stored, Tested}
+use Rattle.fill.specs.Tested.{Stored}
 use Rattle.std.specs.Prelude.{Err}
 use Rattle.sheet.specs.declared.refusal.Refusal.TheVariants.{NoRoom}
 
 -- Lawful base tables
-module _ {ws store run : Words} {plan : Plan} {starts numbers : List ℕ} (st : Stored ws plan store) (te : Tested ws run starts numbers) where
+module _ {ws store run : Words} {plan : Plan} {starts : List ℕ} (st : Stored ws plan store) (laid : Laid ws run starts)
+    (law : lawful (sheet_of ws) (tables_of ws run) ≡ true) where
   is-good : Good (sheet_of ws)
   is-good = good_of ws st.good
 
   base-is : good_base (sheet_of ws) run ≡ true
-  base-is = lawful-is st run te.counts true te.lawful
-
-  pub based : Based ws run starts numbers
-  based = lawful-based te.laid te.orders te.lawful
-
-  pub rooted : Rooted ws run starts numbers plan.root
-  rooted = record { based = based; lawful = te.lawful; root_is = st.planned.planned.root_is }
+  base-is = lawful-is st run (run-good (sheet_of ws) run laid.counted) true law
 
   -- Refusal 9
   fits-are : (b c : Bool) → every (fits_no ws run) (table_count ws) ≡ b → list_fits (sheet_of ws) (tables_of ws run) ≡ c
@@ -93,15 +87,13 @@ module _ {ws store run : Words} {plan : Plan} {starts numbers : List ℕ} (st : 
           yes : list_fits (sheet_of ws) (tables_of ws run) ≡ true
           yes = unfold list_fits in le-leb (length (the_list (sheet_of ws) (tables_of ws run))) (room (sheet_of ws) (sheet_of ws).n) (omega (arith, room-is))
 
-      pub blank : (now : Words) → Stands (sheet_of ws) now (partly_of ws run (table_count ws)) → Blank ws run starts (route_of plan) list now
+      pub blank : (now : Words) → Stands (sheet_of ws) now (partly_of ws run (table_count ws)) → Blank ws run (route_of plan) list now
       blank now h =
           let s = sheet_of ws in
           let written = subst (Stands s now) (all-written ws run) h in
           record {
-            laid = te.laid;
-            lawful = te.lawful;
             ground = planned-ground st.good st.planned.planned
-                (sides-sound s is-good (tables_of ws run) (lawful-tables ws run te.lawful) now written side-room);
+                (sides-sound s is-good (tables_of ws run) (lawful-tables ws run law) now written side-room);
             lies = list-lies s plan st.planned list e;
             stands = written;
             fits = omega arith;

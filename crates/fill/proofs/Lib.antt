@@ -1,3 +1,4 @@
 pub mod Zeros
+pub mod Counted
 pub mod Outcomes
 pub mod Lawful

@@ -16,13 +16,18 @@ use Rattle.meaning.specs.Base.{Tables, Change, base_of}
 use Rattle.meaning.specs.Store.{Stretch, rows_at, show}
 use Rattle.meaning.specs.Change.{change}
 use Rattle.meaning.specs.Fill.{fill}
-use Rattle.meaning.specs.Demands.{change_tests, fill_tests, show_tests, Answered, Shown, Filled, base_after, Right, AllRight}
-use Rattle.store.specs.declared.Answer.{Answer}
+use Rattle.meaning.specs.Demands.{Refused, First, sheet_tests, change_tests, fill_tests, show_tests, Answered, Shown, Filled, base_after, Right, AllRight}
+use Rattle.std.specs.Prelude.{Result, Ok}
+use Rattle.sheet.specs.declared.refusal.Refusal.{Refusal}
+use Rattle.sheet.specs.Refusals.{number_of}
+use Rattle.store.proofs.Shows.{back-gives}
+use Rattle.store.specs.declared.Done.{Done}
 use Rattle.store.specs.Answers.{Says}
 use Rattle.oratjolet.specs.Exports.{Left}
 use Rattle.laws.proofs.Numbers.{plan-number}
-use Rattle.plan_answer.specs.Answers.{table_no, answer_of}
-use Rattle.plan_answer.proofs.Laid.{table-in, tables-many}
+use Rattle.plan_answer.specs.Answers.{table_no, laid_out, answer_of}
+use Rattle.plan_answer.specs.declared.PlanAnswer.{PlanAnswer}
+use Rattle.plan_answer.proofs.Laid.{table-in, tables-many, answer-good, planned-number}
 use Rattle.plan_answer.proofs.Sets.{plan-read-back}
 use Rattle.upkeep.proofs.First.{demand1}
 use Rattle.upkeep.proofs.Second.{demand2}
@@ -36,7 +41,7 @@ use Rattle.running.specs.Running.{Running1, Running2, Running3}
 abbrev As : {A O : Type 0} → (Words → Words → A → O) → Ran A O → Type 0
 As f r = f r.sheet r.store r.asked ≡ r.outcome
 
-said : (o : Outcome) (a : Answer) (exit : Words) → Says o a exit → o ≡ outcome_of a exit
+said : (o : Outcome) (a : Result Done Refusal) (exit : Words) → Says o a exit → o ≡ outcome_of a exit
 said o a exit h = λ i. record { number = sym h.number i; taken = sym h.taken i; added = sym h.added i; words = sym h.words i }
 
 left : (o : Outcome) (number taken added : ℕ) (exit : Words) → Left o number taken added exit
@@ -53,17 +58,24 @@ as-fill (inl k) = said _ _ _ k.promise
 as-fill (inr k) = left _ _ _ _ _ k.promise
 
 pub as-show : (k : ShowCall) → As show (show_ran k)
-as-show (inl k) = let h = k.promise.gives in λ i. record { number = sym h.number_is i; words = sym h.words_are i }
+as-show (inl k) = let h = back-gives _ _ _ k.result k.promise in λ i. record { number = sym h.number_is i; words = sym h.words_are i }
 as-show (inr k) = let h = k.promise in λ i. record { number = sym h.number_is i; words = sym h.words_are i }
 
 pub as-plan : (k : PlanCall) → Answers k (answer_of (plan (planned_sheet k)))
-unfolding answer_of
 as-plan (inl k) = k.promise
-as-plan (inr k) = (k.promise.number_is, k.promise.words_are)
+as-plan (inr k) = (k.promise.number_is ∙ plan-number (planned_sheet (inr k)) ∙ sym (planned-number (planned_sheet (inr k))), k.promise.words_are)
+
+-- the number of the plan call's answer is its plan's
+answer-number : (sheet : Words) → number_of (answer_of (plan sheet)) ≡ (plan sheet).number
+answer-number sheet = planned-number sheet ∙ sym (plan-number sheet)
 
 answered-plan : (sheet : Words) → AnsweredPlan sheet (answer_of (plan sheet))
-unfolding answer_of
-answered-plan sheet = record { number = (demand1.plans sheet).number; fields = λ d. ap answer_of ((demand1.plans sheet).fields d) }
+answered-plan sheet =
+    let is = answer-number sheet in
+    record {
+      number = subst (First (sheet_tests sheet)) (sym is) (demand1.plans sheet).number;
+      fields = λ d. ap answer_of ((demand1.plans sheet).fields (subst Refused is d)) ∙ ap (λ (k : ℕ). answer_of (no_plan k)) (sym is);
+    }
 
 pub running1 : Running1
 running1 =
@@ -99,7 +111,7 @@ module _ (sheet : Words) (good : sheet_refusal sheet ≡ 0) where
   many : length (plan sheet).tables ≡ (sheet_of sheet).n
   many = ap (λ (p : Plan). length p.tables) is-good ∙ tables-many (sheet_of sheet)
 
-  table-derived : (t : ℕ) → t < (sheet_of sheet).n → DerivedTable (sheet_of sheet) (answer_of (plan sheet)) t
+  table-derived : (t : ℕ) → t < (sheet_of sheet).n → DerivedTable (sheet_of sheet) (laid_out (plan sheet)) t
   unfolding table_plan
   table-derived t h =
       let told = plan-read-back sheet t (omega (arith, many)) in
@@ -111,18 +123,22 @@ module _ (sheet : Words) (good : sheet_refusal sheet ≡ 0) where
         need-is = told.need-is ∙ ap (λ (p : TablePlan). p.need) is;
       }
 
-  derived-plan : DerivedPlan (sheet_of sheet) (answer_of (plan sheet))
-  unfolding answer_of
+  derived-plan : DerivedPlan (sheet_of sheet) (laid_out (plan sheet))
+  unfolding laid_out
   derived-plan = record { derived = demand2.derived sheet good; tables = many; each-table = table-derived }
 
-good-if : (sheet : Words) → (answer_of (plan sheet)).number ≡ 0 → sheet_refusal sheet ≡ 0
-unfolding answer_of
-good-if sheet e = sym (plan-number sheet) ∙ e
+  answer-is : answer_of (plan sheet) ≡ Ok (laid_out (plan sheet))
+  answer-is = sym (answer-good sheet good) ∙ ap {B = Result PlanAnswer Refusal} (λ (p : Plan). Ok (laid_out p)) (sym is-good)
 
 pub running2 : Running2
 running2 =
     record {
-      plans = λ k. let sheet = planned_sheet k in (answer_of (plan sheet), as-plan k, λ e. derived-plan sheet (good-if sheet e));
+      plans = λ k. let sheet = planned_sheet k in (
+        answer_of (plan sheet),
+        as-plan k,
+        λ e.
+            let good = sym (planned-number sheet) ∙ e in (laid_out (plan sheet), answer-is sheet good, derived-plan sheet good),
+      );
       prints = prints;
       fills = λ k good long lawful room.
           let r = fill_ran k in

@@ -2,7 +2,7 @@
 -- of the source, and `Asked` what it reads from the `requires`. Each call is that of the crate's function or that of the face, which
 -- `oratjolet_c` exports to C under the same name and with the same clauses.
 -- Assumes nothing.
-use Rattle.std.specs.Prelude.{ℕ, ◌≡◌, ◌⊎◌, take, drop}
+use Rattle.std.specs.Prelude.{ℕ, ◌≡◌, ◌⊎◌, Result, take, drop}
 use Rattle.std.proofs.Common.{inl, inr}
 use contract.Lifetimes.{Lfts}
 use denote.Triple.Clauses.{Ended, AtExit}
@@ -11,8 +11,11 @@ use Rattle.lists.specs.Lists.{Words}
 use Rattle.meaning.specs.Answers.{Outcome}
 use Rattle.meaning.specs.Base.{Change, change_of}
 use Rattle.meaning.specs.Store.{Stretch}
-use Rattle.store.specs.declared.Answer.{Answer}
-use Rattle.store.specs.Answers.{number_of, taken_of, added_of}
+use Rattle.sheet.specs.declared.refusal.Refusal.{Refusal}
+use Rattle.sheet.specs.Refusals.{number_of}
+use Rattle.store.specs.declared.Done.{Done}
+use Rattle.store.specs.Answers.{taken_of, added_of}
+use Rattle.store.specs.Shows.{words_in}
 use Rattle.plan_answer.specs.declared.PlanAnswer.{PlanAnswer}
 use Rattle.oratjolet.specs.Exports.{plan_words}
 use Rattle.plan_answer.specs.contracts.plan_of as plan
@@ -73,7 +76,7 @@ pub record Ran (Asked Given : Type 0) : Type 0 where
   pub asked : Asked
   pub outcome : Given
 
-abbrev pub outcome_of : Answer → Words → Outcome
+abbrev pub outcome_of : Result Done Refusal → Words → Outcome
 outcome_of a exit = record { number = number_of a; taken = taken_of a; added = added_of a; words = exit }
 
 abbrev pub change_ran : ChangeCall → Ran Change Outcome
@@ -110,8 +113,7 @@ fill_ran (inr k) =
 abbrev pub show_ran : ShowCall → Ran ℕ Stretch
 show_ran (inl k) =
     let (sheet, (store, (part, _))) = k.args in
-    let (_, (_, (_, (refusal, _)))) = k.exit in
-    record { sheet = sheet.now; store = store.now; asked = part; outcome = record { number = refusal.now; words = k.result.now } }
+    record { sheet = sheet.now; store = store.now; asked = part; outcome = record { number = number_of k.result; words = words_in k.result } }
 show_ran (inr k) =
     let (sheet, (store, (part, _))) = k.args in
     let (_, (_, (_, (first, (count, _))))) = k.exit in
@@ -127,6 +129,6 @@ planned_sheet (inl k) = k.args.0.now
 planned_sheet (inr k) = k.args.0.now
 
 -- the face's answers a number and 220 words
-abbrev pub Answers : PlanCall → PlanAnswer → Type 0
+abbrev pub Answers : PlanCall → Result PlanAnswer Refusal → Type 0
 Answers (inl k) a = k.result ≡ a
-Answers (inr k) a = (k.result ≡ a.number) × (k.exit.1.0.now ≡ plan_words a)
+Answers (inr k) a = (k.result ≡ number_of a) × (k.exit.1.0.now ≡ plan_words a)

@@ -1,6 +1,6 @@
 -- The three demands of the code that runs.
 -- Assumes nothing.
-use Rattle.std.specs.Prelude.{ℕ, ◌<◌, ◌≡◌, cond, List, [], ◌∷◌, T, eqb, length, get_or}
+use Rattle.std.specs.Prelude.{ℕ, ◌<◌, ◌≡◌, cond, List, [], ◌∷◌, Result, Ok, T, eqb, length, get_or}
 use Rattle.lists.specs.Lists.{Words}
 use Rattle.lists.specs.Totals.{one}
 use Rattle.meaning.specs.Answers.{Outcome}
@@ -10,6 +10,8 @@ use Rattle.meaning.specs.Base.{Tables, Change, base_of, good_base, lawful_change
 use Rattle.meaning.specs.Meaning.{meaning}
 use Rattle.meaning.specs.Store.{Stretch, store_of, rows_at, fits}
 use Rattle.meaning.specs.Demands.{Refused, First, sheet_tests, change_tests, fill_tests, show_tests, Answered, Shown, Derived, Filled, ways_of, outgrows}
+use Rattle.sheet.specs.declared.refusal.Refusal.{Refusal}
+use Rattle.sheet.specs.Refusals.{number_of}
 use Rattle.sheet_plan.specs.Marks.{marked_in}
 use Rattle.plan_answer.specs.declared.PlanAnswer.{PlanAnswer}
 use Rattle.plan_answer.specs.Answers.{answer_of}
@@ -26,9 +28,9 @@ AnsweredFill r = Answered (fill_tests r.sheet r.store r.asked) r.store r.outcome
 abbrev pub AnsweredShow : Ran ℕ Stretch → Type 0
 AnsweredShow r = Shown (show_tests r.sheet r.store r.asked) r.outcome
 
-pub record AnsweredPlan (sheet : Words) (a : PlanAnswer) : Type 0 where
-  pub number : First (sheet_tests sheet) a.number
-  pub fields : Refused a.number → a ≡ answer_of (no_plan a.number)
+pub record AnsweredPlan (sheet : Words) (a : Result PlanAnswer Refusal) : Type 0 where
+  pub number : First (sheet_tests sheet) (number_of a)
+  pub fields : Refused (number_of a) → a ≡ answer_of (no_plan (number_of a))
 
 pub record Running1 : Type 0 where
   pub take-any : AllTakeAny
@@ -36,7 +38,7 @@ pub record Running1 : Type 0 where
   pub changes : (k : ChangeCall) → AnsweredChange (change_ran k)
   pub fills : (k : FillCall) → AnsweredFill (fill_ran k)
   pub shows : (k : ShowCall) → AnsweredShow (show_ran k)
-  pub plans : (k : PlanCall) → (a : PlanAnswer) × Answers k a × AnsweredPlan (planned_sheet k) a
+  pub plans : (k : PlanCall) → (a : Result PlanAnswer Refusal) × Answers k a × AnsweredPlan (planned_sheet k) a
 
 -- Demand 2: the plan's answer has the side tables and the sets that Algorithm 3.1 derives
 pub record DerivedTable (s : Sheet) (a : PlanAnswer) (t : ℕ) : Type 0 where
@@ -51,7 +53,8 @@ pub record DerivedPlan (s : Sheet) (a : PlanAnswer) : Type 0 where
   pub each-table : (t : ℕ) → t < s.n → DerivedTable s a t
 
 pub record Running2 : Type 0 where
-  pub plans : (k : PlanCall) → (a : PlanAnswer) × Answers k a × (a.number ≡ 0 → DerivedPlan (sheet_of (planned_sheet k)) a)
+  pub plans : (k : PlanCall)
+      → (a : Result PlanAnswer Refusal) × Answers k a × (number_of a ≡ 0 → (p : PlanAnswer) × (a ≡ Ok p) × DerivedPlan (sheet_of (planned_sheet k)) p)
   -- the plan that the program prints, however its text came in
   pub prints : (k : NewCall) (chunks : List ChunkCall) (end : ReplyCall) → Read k.result chunks end → Printed (text_of chunks) end
   pub fills : (k : FillCall)

@@ -10,7 +10,7 @@ use Rattle.meaning.specs.Sheet.{sheet_of, good_counts, good_edge, good_condition
 use Rattle.meaning.specs.Plan.{root, edge_into, others, dep, dep_plus, need, kept, is_shown, shown, columns, size, start, store_length}
 use Rattle.meaning.specs.Plan.{in_order, table_plan, good_plan, plan}
 use Rattle.meaning.specs.Cases.{desk, desk_unlisted}
-use Rattle.plan_answer.specs.Answers.{sets_of, per_table, answer_of}
+use Rattle.plan_answer.specs.Answers.{sets_of, per_table, laid_out, answer_of}
 use Rattle.oratjolet.specs.Exports.{plan_words}
 
 -- the marks of eight tables, of which the desk sheet has four
@@ -62,5 +62,5 @@ pub plans-come-to : map got worked_plans ≡ map want worked_plans
 unfolding
     cut sheet_of good_counts good_edge good_condition good_listed good_words good_tree sheet_refusal root edge_into others dep
     dep_plus need kept is_shown shown columns size start store_length in_order table_plan good_plan plan filled sets_of
-    per_table answer_of plan_words
+    per_table laid_out answer_of plan_words
 plans-come-to = same_lists→≡ same_row (same_lists→≡ eqb eqb→eq) (map got worked_plans) (map want worked_plans) tt

@@ -12,13 +12,19 @@ use Rattle.lists.specs.Parts.{part}
 use denote.Ref.{Bor}
 use Rattle.std.specs.Prelude.{Result, Ok, Err}
 use Rattle.sheet.specs.declared.refusal.Refusal.{Refusal}
-use Rattle.sheet.specs.Refusals.{refusal_number}
+use Rattle.sheet.specs.Refusals.{refusal_number, number_of}
 use Rattle.sheet.proofs.Refusals.{never-zero, number-once}
-use Rattle.store.specs.Shows.{Gives, first_of, Stands, word_at, HandsBack}
+use Rattle.store.specs.Shows.{Gives, first_of, Stands, words_in, word_at, HandsBack}
 use Rattle.store.specs.declared.Stretch.{Stretch}
 use Rattle.meaning.specs.Sheet.{sheet_of, sheet_refusal}
 use Rattle.meaning.specs.Plan.{store_length}
 use Rattle.meaning.specs.Store.{sound, show_refusal, stretch_of, show}
+
+-- the words and the number that are handed back
+pub back-gives : (sheet : Words) (store : Bor Words) (part : ℕ) (a : Result (Bor Words) Refusal) → HandsBack sheet store part a
+    → Gives sheet store.now part (words_in a) (number_of a)
+back-gives sheet store part (Ok rows) h = h.gives
+back-gives sheet store part (Err r) h = h
 
 -- the same words at the same place, or the same refusal
 abbrev pub Same : Result (Bor Words) Refusal → Result (Bor Words) Refusal → Type 0

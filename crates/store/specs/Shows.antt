@@ -39,6 +39,10 @@ pub record RowsAt (sheet : Words) (store : Bor Words) (part : ℕ) (rows : Bor W
   pub stands : rows.ref_ptr ≡ word_at store (first_of sheet part 0)
 
 -- a refusal hands back no words
+abbrev pub words_in : Result (Bor Words) Refusal → Words
+words_in (Ok rows) = rows.now
+words_in (Err r) = []
+
 abbrev pub HandsBack : Words → Bor Words → ℕ → Result (Bor Words) Refusal → Type 0
 HandsBack sheet store part (Ok rows) = RowsAt sheet store part rows
 HandsBack sheet store part (Err r) = Gives sheet store.now part [] (refusal_number r)

@@ -1,19 +1,21 @@
 -- Laws of the reader's steps: which byte leads to which state, and the states after bytes one after the other.
 -- Assumes nothing.
 use Prim.Native.Nat.{ℕ, ◌+◌, ◌-◌, ◌*◌, ◌/◌, ◌^◌, ◌≤◌, ◌<◌}
-use mathlib.Core.Path.{◌≡◌, refl, sym, ◌∙◌}
+use mathlib.Core.Path.{◌≡◌, refl, sym, ap, ◌∙◌}
+use Rattle.std.specs.Prelude.{Option, Some, None}
+use Rattle.std.specs.Option.{is_some, unwrap_or}
 use mathlib.Core.Logic.{◌⊎◌, inl, inr, ⊎_elim}
-use mathlib.Core.Bool.{Bool, true, false, cond, not}
+use mathlib.Core.Bool.{Bool, true, false, cond}
 use mathlib.Core.List.{List, [], ◌∷◌, ◌++◌}
 use native.Mathlib.Numerals.{add-one}
 use native.Mathlib.Omega.{arith}
-use lib.ListN.{length, get_or, take}
+use lib.ListN.{length, get_or, take, set}
 use lib.Seq.{take-suc}
 use lib.Dec.{ltb}
-use borrow.Author.Tests.{not-true, not-false, ne_eqb, le-leb, lt-leb, lt-ltb, le-ltb}
+use borrow.Author.Tests.{ne_eqb, le-leb, lt-leb, lt-ltb, le-ltb}
 use Rattle.lists.specs.Lists.{flat}
 use Rattle.text.specs.Reading.{Text, is_blank, is_digit}
-use Rattle.text.specs.Readers.{most, broken, emptied, noted, longer, after_blank, after_digit, after_byte, after_bytes, after_chunks}
+use Rattle.text.specs.Readers.{most, has_begun, hand, broken, emptied, noted, longer, after_blank, after_digit, after_byte, after_bytes, after_chunks}
 use Rattle.text.specs.declared.reading.Reader.{Reader}
 
 pub blank : (b : ℕ) → (b ≡ 10) ⊎ (b ≡ 32) → is_blank b ≡ true
@@ -63,34 +65,43 @@ module _ (r q : Reader) (b : ℕ) where
 
 -- a blank ends the number in hand
 module _ (r : Reader) where
-  pub blank_none : not r.begun ≡ true → r ≡ after_blank r
+  pub blank_none : r.number ≡ None → r ≡ after_blank r
   unfolding after_blank
-  blank_none h = failing r.begun _ _ (not-true _ h)
+  blank_none h = failing (has_begun r) _ _ (ap is_some h)
 
-  pub blank-full : not r.begun ≡ false → most ≤ r.many → emptied r ≡ after_blank r
-  unfolding after_blank
-  blank-full h l = failing (ltb r.many most) _ _ (le-ltb _ _ l) ∙ passed r.begun _ _ (not-false _ h)
+  abbrev pub noted_with : ℕ → Reader
+  noted_with v = record { words = set r.words r.many v; many = r.many + 1; number = None; failed = r.failed }
 
-  pub blank-kept : not r.begun ≡ false → r.many < most → noted r ≡ after_blank r
-  unfolding after_blank
-  blank-kept h l = passed (ltb r.many most) _ _ (lt-ltb _ _ l) ∙ passed r.begun _ _ (not-false _ h)
+  module _ (v : ℕ) (h : r.number ≡ Some v) where
+    pub blank-full : most ≤ r.many → emptied r ≡ after_blank r
+    unfolding after_blank
+    blank-full l = failing (ltb r.many most) _ _ (le-ltb _ _ l) ∙ passed (has_begun r) _ _ (ap is_some h)
+
+    pub blank-kept : r.many < most → noted_with v ≡ after_blank r
+    unfolding after_blank noted
+    blank-kept l =
+        ap noted_with (sym (ap (λ (o : Option ℕ). unwrap_or o 0) h))
+        ∙ passed (ltb r.many most) _ _ (lt-ltb _ _ l) ∙ passed (has_begun r) _ _ (ap is_some h)
 
 -- a digit makes it longer, if that has 64 bits
 module _ (r : Reader) (d : ℕ) where
-  pub digit-longer : ltb (r.number * 10 + d) (2 ^ 64) ≡ true → longer r d ≡ after_digit r d
+  pub digit-longer : ltb (hand r * 10 + d) (2 ^ 64) ≡ true → longer r d ≡ after_digit r d
   unfolding after_digit
   digit-longer h = passed _ _ _ h
 
-  pub digit-broken : ltb (r.number * 10 + d) (2 ^ 64) ≡ false → broken r ≡ after_digit r d
+  pub digit-broken : ltb (hand r * 10 + d) (2 ^ 64) ≡ false → broken r ≡ after_digit r d
   unfolding after_digit
   digit-broken h = failing _ _ _ h
 
   -- exactly if the number is at most a tenth of what the digit leaves
-  pub digit-fits : d < 2 ^ 64 → r.number ≤ (2 ^ 64 - 1 - d) / 10 → longer r d ≡ after_digit r d
-  digit-fits h l = digit-longer (lt-ltb (r.number * 10 + d) (2 ^ 64) (omega arith))
+  module _ (v : ℕ) (e : v ≡ hand r) where
+    pub digit-fits : d < 2 ^ 64 → v ≤ (2 ^ 64 - 1 - d) / 10
+        → ◌≡◌ {A = Reader} (record { words = r.words; many = r.many; number = Some (v * 10 + d); failed = r.failed }) (after_digit r d)
+    unfolding longer
+    digit-fits h l = rw e (digit-longer (lt-ltb (hand r * 10 + d) (2 ^ 64) (omega arith)))
 
-  pub digit-too-large : (2 ^ 64 - 1 - d) / 10 < r.number → broken r ≡ after_digit r d
-  digit-too-large l = digit-broken (le-ltb (r.number * 10 + d) (2 ^ 64) (omega arith))
+    pub digit-too-large : (2 ^ 64 - 1 - d) / 10 < v → broken r ≡ after_digit r d
+    digit-too-large l = digit-broken (le-ltb (hand r * 10 + d) (2 ^ 64) (omega arith))
 
 -- bytes one after the other
 pub bytes-more : (r q : Reader) (bs : Text) (i : ℕ) → i < length bs → q ≡ after_bytes r (take i bs)

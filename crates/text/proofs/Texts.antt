@@ -3,7 +3,7 @@
 use Prim.Native.Nat.{ℕ, zero, suc, ◌+◌, ◌-◌, ◌*◌, ◌^◌, ◌≤◌, ◌<◌}
 use mathlib.Core.Path.{◌≡◌, refl, sym, ap, ap₂, ◌∙◌}
 use mathlib.Core.Logic.{inl}
-use mathlib.Core.Bool.{Bool, true, false, cond, ◌&&◌}
+use mathlib.Core.Bool.{Bool, true, false, cond, true≢false, ◌&&◌}
 use mathlib.Core.List.{List, [], ◌∷◌, ◌++◌, map, append-nil, append_assoc}
 use native.Mathlib.Numerals.{add-one}
 use native.Mathlib.Omega.{arith}
@@ -11,9 +11,12 @@ use lib.Dec.{ltb}
 use lib.ListN.{length, take, set, length-append, length-take, length-set, length-replicate}
 use lib.Seq.{take_all, take-append-le, take-suc-set, length-take-le}
 use borrow.Author.Tests.{lt-ltb, le-ltb, ltb-true, ltb-false}
+use Rattle.std.specs.Prelude.{Option, Some, None}
+use Rattle.std.specs.Option as OptionWords
+use Rattle.std.specs.Option.{unwrap_or}
 use Rattle.lists.specs.Lists.{Words, all, select}
 use Rattle.text.specs.Reading.{Text, is_blank, is_digit, onward, value, before, pieces, is_some, decimals, is_number, Reading, says, isnt, read_text}
-use Rattle.text.specs.Readers.{most, fresh, broken, emptied, noted, longer, after_blank, after_byte, after_bytes, finished, reading_of, first_words}
+use Rattle.text.specs.Readers.{most, has_begun, hand, fresh, broken, emptied, noted, longer, after_blank, after_byte, after_bytes, finished, reading_of, first_words}
 use Rattle.text.specs.declared.reading.Reader.{Reader}
 use Rattle.text.proofs.Bytes.{blank, passed, failing, byte-failed, byte-blank, byte-digit, byte-other, digit-longer, digit-broken}
 
@@ -129,7 +132,6 @@ record Unfailed (r : Reader) : Type 0 where
   pub going : r.failed ≡ false
   pub long : length r.words ≡ most
   pub room : r.many ≤ most
-  pub none : r.begun ≡ false → r.number ≡ 0
 
 -- the words kept so far
 abbrev held : Reader → Words
@@ -148,29 +150,34 @@ held-full n many v ws h f l =
     let m : length (take many ws) ≡ many = length-take-le many ws (omega arith) in
     sym (take-append-le n (take many ws) (v ∷ []) (omega arith) ∙ take_all n (take many ws) (omega arith))
 
+-- no number begun is 0 in hand
+no-hand : (o : Option ℕ) → OptionWords.is_some o ≡ false → unwrap_or o 0 ≡ 0
+no-hand None e = refl
+no-hand (Some v) e = absurd (true≢false e)
+
 record Blanked (r q : Reader) : Type 0 where
   pub unfailed : Unfailed q
-  pub empty : q.begun ≡ false
-  pub more : held q ≡ take most (held r ++ in_hand r.begun r.number)
+  pub empty : has_begun q ≡ false
+  pub more : held q ≡ take most (held r ++ in_hand (has_begun r) (hand r))
 
 blanked : (r : Reader) → Unfailed r → Blanked r (after_blank r)
 unfolding after_blank noted emptied
-blanked r p = go r.begun refl (ltb r.many most) refl
+blanked r p = go (has_begun r) refl (ltb r.many most) refl
   where
-    go : (t : Bool) → r.begun ≡ t → (u : Bool) → ltb r.many most ≡ u → Blanked r (cond t (cond u (noted r) (emptied r)) r)
+    go : (t : Bool) → has_begun r ≡ t → (u : Bool) → ltb r.many most ≡ u → Blanked r (cond t (cond u (noted r) (emptied r)) r)
     go false e u l = record { unfailed = p; empty = e; more = rw e (held_none most r.many r.words p.room) }
     go true e true l =
         let m : r.many < most = ltb-true _ _ l in
         record {
-          unfailed = record { going = p.going; long = simp length-set p.long; room = omega arith; none = λ e. refl };
+          unfailed = record { going = p.going; long = simp length-set p.long; room = omega arith };
           empty = refl;
-          more = rw e (held_more most r.many r.number r.words m p.long);
+          more = rw e (held_more most r.many (hand r) r.words m p.long);
         }
     go true e false l =
         record {
-          unfailed = record { going = p.going; long = p.long; room = p.room; none = λ e. refl };
+          unfailed = record { going = p.going; long = p.long; room = p.room };
           empty = refl;
-          more = rw e (held-full most r.many r.number r.words p.room (ltb-false _ _ l) p.long);
+          more = rw e (held-full most r.many (hand r) r.words p.room (ltb-false _ _ l) p.long);
         }
 
 -- what is kept of the words so far and of those to come
@@ -198,7 +205,7 @@ fails : (r : Reader) (bs : Text) → ends_as (broken r) bs ≡ isnt
 unfolding broken
 fails r bs = stays (broken r) bs refl
 
-ends-blank : (r : Reader) → Unfailed r → ends_as r [] ≡ first_words (says (held r ++ in_hand r.begun r.number))
+ends-blank : (r : Reader) → Unfailed r → ends_as r [] ≡ first_words (says (held r ++ in_hand (has_begun r) (hand r)))
 unfolding ends_as after_bytes reading_of finished first_words
 ends-blank r p =
     let q = blanked r p in
@@ -208,33 +215,33 @@ ends-blank r p =
 
 longer-unfailed : (r : Reader) (d : ℕ) → Unfailed r → Unfailed (longer r d)
 unfolding longer
-longer-unfailed r d p = record { going = p.going; long = p.long; room = p.room; none = λ e. let z : ◌≡◌ {A = ℕ} 0 1 = cc in absurd (omega arith) }
+longer-unfailed r d p = record { going = p.going; long = p.long; room = p.room }
 
 step : (r q : Reader) (b : ℕ) (bs : Text) → q ≡ after_byte r b → ends_as r (b ∷ bs) ≡ ends_as q bs
 unfolding ends_as after_bytes
 step r q b bs e = ap (λ q. ends_as q bs) (sym e)
 
-ends : (bs : Text) (r : Reader) → Unfailed r → ends_as r bs ≡ first_words (and_then (held r) (read_from r.begun r.number bs))
+ends : (bs : Text) (r : Reader) → Unfailed r → ends_as r bs ≡ first_words (and_then (held r) (read_from (has_begun r) (hand r) bs))
 unfolding read_from first_words longer
 ends [] r p = ends-blank r p
 ends (b ∷ bs) r p =
     by-blank (is_blank b) refl (ends bs (after_blank r) (blanked r p).unfailed) (ends bs (longer r (b - 48)) (longer-unfailed r (b - 48) p))
   where
     w : ℕ
-    w = r.number * 10 + (b - 48)
+    w = (hand r) * 10 + (b - 48)
 
     -- what the rest says after the number in hand
     long : Reading
     long = first_words (and_then (held r) (read_from true w bs))
 
     blank-ends : Blanked r (after_blank r)
-        → ends_as (after_blank r) bs ≡ first_words (and_then (held (after_blank r)) (read_from (after_blank r).begun (after_blank r).number bs))
-        → ends_as (after_blank r) bs ≡ first_words (and_then (held r) (and_then (in_hand r.begun r.number) (read_from false 0 bs)))
+        → ends_as (after_blank r) bs ≡ first_words (and_then (held (after_blank r)) (read_from (has_begun (after_blank r)) (hand (after_blank r)) bs))
+        → ends_as (after_blank r) bs ≡ first_words (and_then (held r) (and_then (in_hand (has_begun r) (hand r)) (read_from false 0 bs)))
     blank-ends q ih =
         ih
-        ∙ ap (λ h. first_words (and_then h (read_from (after_blank r).begun (after_blank r).number bs))) q.more
-        ∙ ap₂ (λ t v. first_words (and_then (take most (held r ++ in_hand r.begun r.number)) (read_from t v bs))) q.empty (q.unfailed.none q.empty)
-        ∙ first-twice (held r) (in_hand r.begun r.number) (read_from false 0 bs)
+        ∙ ap (λ h. first_words (and_then h (read_from (has_begun (after_blank r)) (hand (after_blank r)) bs))) q.more
+        ∙ ap₂ (λ t v. first_words (and_then (take most (held r ++ in_hand (has_begun r) (hand r))) (read_from t v bs))) q.empty (no-hand (after_blank r).number q.empty)
+        ∙ first-twice (held r) (in_hand (has_begun r) (hand r)) (read_from false 0 bs)
 
     by_size : is_blank b ≡ false → is_digit b ≡ true → (l : Bool) → ltb w (2 ^ 64) ≡ l → ends_as (longer r (b - 48)) bs ≡ long
         → ends_as r (b ∷ bs) ≡ first_words (and_then (held r) (cond l (read_from true w bs) isnt))
@@ -247,9 +254,9 @@ ends (b ∷ bs) r p =
     by-digit k false d ih = step r _ b bs (byte-other r _ b p.going k d refl) ∙ fails r bs
 
     by-blank : (t : Bool) → is_blank b ≡ t
-        → ends_as (after_blank r) bs ≡ first_words (and_then (held (after_blank r)) (read_from (after_blank r).begun (after_blank r).number bs))
+        → ends_as (after_blank r) bs ≡ first_words (and_then (held (after_blank r)) (read_from (has_begun (after_blank r)) (hand (after_blank r)) bs))
         → ends_as (longer r (b - 48)) bs ≡ long
-        → ends_as r (b ∷ bs) ≡ first_words (and_then (held r) (cond t (and_then (in_hand r.begun r.number) (read_from false 0 bs))
+        → ends_as r (b ∷ bs) ≡ first_words (and_then (held r) (cond t (and_then (in_hand (has_begun r) (hand r)) (read_from false 0 bs))
         (cond (is_digit b) (cond (ltb w (2 ^ 64)) (read_from true w bs) isnt) isnt)))
     by-blank true k blank-ih digit-ih = step r _ b bs (byte-blank r _ b p.going k refl) ∙ blank-ends (blanked r p) blank-ih
     by-blank false k blank-ih digit-ih = by-digit k (is_digit b) refl digit-ih
@@ -258,5 +265,5 @@ ends (b ∷ bs) r p =
 pub reads : (text : Text) → reading_of (finished (after_bytes fresh text)) ≡ first_words (read_text text)
 unfolding ends_as read_hand read_pieces read_text decimals
 reads text =
-    ends text fresh (record { going = refl; long = length-replicate {A = ℕ} most 0; room = omega arith; none = λ e. refl })
+    ends text fresh (record { going = refl; long = length-replicate {A = ℕ} most 0; room = omega arith })
     ∙ ap first_words (then-none (read_from false 0 text) ∙ from_pieces false 0 text (omega arith) (λ e. refl))

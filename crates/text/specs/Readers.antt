@@ -1,6 +1,7 @@
 -- The reader's state after a byte, and after all the bytes so far: one function of these, however they were cut into chunks.
 -- Assumes nothing.
-use Rattle.std.specs.Prelude.{ℕ, ◌+◌, ◌-◌, ◌*◌, ◌^◌, true, false, cond, List, [], ◌∷◌, ltb, take, set, replicate}
+use Rattle.std.specs.Prelude.{ℕ, ◌+◌, ◌-◌, ◌*◌, ◌^◌, Bool, true, false, cond, Some, None, List, [], ◌∷◌, ltb, take, set, replicate}
+use Rattle.std.specs.Option.{is_some, unwrap_or}
 use Rattle.text.specs.Reading.{Text, is_blank, is_digit, Reading, says, isnt}
 use Rattle.text.specs.declared.reading.Reader.{Reader}
 
@@ -10,31 +11,38 @@ most = 146
 
 -- nothing read yet
 abbrev pub fresh : Reader
-fresh = record { words = replicate most 0; many = 0; number = 0; begun = false; failed = false }
+fresh = record { words = replicate most 0; many = 0; number = None; failed = false }
+
+-- a number has begun; the number in hand, 0 if none has
+abbrev pub has_begun : Reader → Bool
+has_begun r = is_some r.number
+
+abbrev pub hand : Reader → ℕ
+hand r = unwrap_or r.number 0
 
 -- text that isn't such numbers
 unfoldable pub broken : Reader → Reader
-broken r = record { words = r.words; many = r.many; number = 0; begun = false; failed = true }
+broken r = record { words = r.words; many = r.many; number = None; failed = true }
 
 -- nothing in hand
 unfoldable pub emptied : Reader → Reader
-emptied r = record { words = r.words; many = r.many; number = 0; begun = false; failed = r.failed }
+emptied r = record { words = r.words; many = r.many; number = None; failed = r.failed }
 
 -- the number in hand is one of the words
 unfoldable pub noted : Reader → Reader
-noted r = record { words = set r.words r.many r.number; many = r.many + 1; number = 0; begun = false; failed = r.failed }
+noted r = record { words = set r.words r.many (hand r); many = r.many + 1; number = None; failed = r.failed }
 
 -- the number in hand has ended, and is kept while there is room
 unfoldable pub after_blank : Reader → Reader
-after_blank r = cond r.begun (cond (ltb r.many most) (noted r) (emptied r)) r
+after_blank r = cond (has_begun r) (cond (ltb r.many most) (noted r) (emptied r)) r
 
 -- the number in hand with one digit more
 unfoldable pub longer : Reader → ℕ → Reader
-longer r d = record { words = r.words; many = r.many; number = r.number * 10 + d; begun = true; failed = r.failed }
+longer r d = record { words = r.words; many = r.many; number = Some (hand r * 10 + d); failed = r.failed }
 
 -- if that still has 64 bits
 unfoldable pub after_digit : Reader → ℕ → Reader
-after_digit r d = cond (ltb (r.number * 10 + d) (2 ^ 64)) (longer r d) (broken r)
+after_digit r d = cond (ltb (hand r * 10 + d) (2 ^ 64)) (longer r d) (broken r)
 
 unfoldable pub after_byte : Reader → ℕ → Reader
 after_byte r b =

@@ -13,8 +13,7 @@ pub const HELD: usize = SHEET_WORDS + 1;
 pub struct Reader {
     pub words: [u64; HELD],
     pub many: usize,
-    pub number: u64,
-    pub begun: bool,
+    pub number: Option<u64>,
     pub failed: bool,
 }
 
@@ -25,8 +24,7 @@ impl Reader {
         Self {
             words: [0u64; HELD],
             many: 0,
-            number: 0,
-            begun: false,
+            number: None,
             failed: false,
         }
     }
@@ -34,8 +32,7 @@ impl Reader {
     fn broken(mut self) -> Self
         ensures { result ≡ broken self }
     {
-        self.number = 0;
-        self.begun = false;
+        self.number = None;
         self.failed = true;
         self
     }
@@ -44,13 +41,11 @@ impl Reader {
     fn take_blank(mut self) -> Self
         ensures { result ≡ after_blank self }
     {
-        if !self.begun {
+        let Some(number) = self.number else {
             return self;
-        }
+        };
+        self.number = None;
         let many = self.many;
-        let number = self.number;
-        self.number = 0;
-        self.begun = false;
         if HELD <= many {
             return self;
         }
@@ -62,11 +57,11 @@ impl Reader {
     fn take_digit(mut self, d: u64) -> Self
         ensures { result ≡ after_digit self d }
     {
-        if (u64::MAX - d) / 10 < self.number {
+        let number = self.number.unwrap_or(0);
+        if (u64::MAX - d) / 10 < number {
             return self.broken();
         }
-        self.number = self.number * 10 + d;
-        self.begun = true;
+        self.number = Some(number * 10 + d);
         self
     }
 

@@ -1,6 +1,6 @@
 -- `fill_run` meets its contract.
 -- Assumes nothing.
-use mathlib.Core.Path.{sym, ◌∙◌}
+use mathlib.Core.Path.{refl, sym, ◌∙◌}
 use Prim.Native.Nat.{ℕ}
 use lib.ListN.{length-replicate}
 use Rattle.filling.proofs.Runs.{run-facts}
@@ -15,44 +15,37 @@ starts_of-starts-requires c = record {
   run = run-facts _ _ c.requires.run_value;
 }
 
-pub order_tables-requires : goal.order_tables-requires
-order_tables-requires c = record {
-  laid = c.starts_of-starts.ensures;
-  numbers_len = length-replicate {A = ℕ} 524280 0;
-  in_bounds = long-enough 32767 32768 (omega arith);
-}
+pub invariant_of-tables : goal.invariant_of-tables
+invariant_of-tables c = record { laid = c.starts_of-starts.ensures }
 
 -- the length of a local array is not computed: it goes by a law
 pub slice_bounds-order_tables-end : goal.slice_bounds-order_tables-end
 slice_bounds-order_tables-end c = sym (length-replicate {A = ℕ} 524280 0)
 
-pub slice_bounds-is_lawful-end : goal.slice_bounds-is_lawful-end
-slice_bounds-is_lawful-end c = sym c.order_tables.ensures.long
+pub slice_bounds-order_tables-end-2 : goal.slice_bounds-order_tables-end-2
+slice_bounds-order_tables-end-2 c = refl
 
-pub is_lawful-requires : goal.is_lawful-requires
-is_lawful-requires c = record {
-  laid = c.starts_of-starts.ensures;
-  orders = c.order_tables.ensures;
+pub order_tables-requires : goal.order_tables-requires
+order_tables-requires c = record {
+  numbers_len = length-replicate {A = ℕ} 524280 0;
+  in_bounds = long-enough 32767 32768 (omega arith);
 }
 
-pub slice_bounds-fill_lawful-end : goal.slice_bounds-fill_lawful-end
-slice_bounds-fill_lawful-end c = sym c.order_tables.ensures.long
+pub slice_bounds-ordered-end : goal.slice_bounds-ordered-end
+slice_bounds-ordered-end c = sym c.order_tables.ensures.long
+
+pub invariant_of-ordered : goal.invariant_of-ordered
+invariant_of-ordered c = record { ordered = c.order_tables.ensures }
 
 pub returns-then-not-is_lawful : goal.returns-then-not-is_lawful
 returns-then-not-is_lawful c =
     lawful-refused c.requires.stored _ c.requires.run_value (sym c.is_lawful.ensures ∙ c.if-not-is_lawful.true)
 
+pub invariant_of-base : goal.invariant_of-base
+invariant_of-base c = record { lawful = sym c.is_lawful.ensures ∙ c.if-not-is_lawful.false }
+
 pub fill_lawful-requires : goal.fill_lawful-requires
-fill_lawful-requires c =
-    record {
-      stored = c.requires.stored;
-      tested = record {
-        laid = c.starts_of-starts.ensures;
-        orders = c.order_tables.ensures;
-        counts = c.requires.run_value;
-        lawful = sym c.is_lawful.ensures ∙ c.if-not-is_lawful.false;
-      };
-    }
+fill_lawful-requires c = c.requires.stored
 
 pub returns : goal.returns
 returns c = c.fill_lawful.ensures

@@ -2,13 +2,9 @@
 -- Assumes nothing.
 use Rattle.std.proofs.Common.{sym, ◌∙◌, replicate}
 use lib.Seq.{length-take-le}
-use Rattle.store.proofs.Plans.{unmarked}
 use Rattle.side_table.proofs.Parts.{side-marked, side-columns, side-narrow}
 use Rattle.side_table.proofs.Shown.{shown-back}
 use Rattle.side_table.proofs.entry_of.Goals as goal
-
-pub returns-then-plan-t-eq0 : goal.returns-then-plan-t-eq0
-returns-then-plan-t-eq0 c = unmarked _ _ c.requires.good_plan _ c.requires.t_bound c.if-plan-t-eq0.true
 
 pub slice_bounds-words-end : goal.slice_bounds-words-end
 slice_bounds-words-end c =

@@ -5,17 +5,12 @@ use Rattle.rows.specs.Ranks.{found_key}
 use Rattle.store.proofs.Plans.{unmarked}
 use Rattle.side_table.proofs.Parts.{side-marked, side-some, side-kept, side-rows}
 use Rattle.side_table.proofs.Tests.{asked-planned, sound-modelled, new-unkept, new-is}
-use native.Mathlib.Omega.{arith}
 use Rattle.side_table.proofs.new_key.Goals as goal
 
 pub returns-then-plan-t-eq0 : goal.returns-then-plan-t-eq0
 returns-then-plan-t-eq0 c =
     let asked = asked-planned c.requires.good_plan c.requires.t_bound c.requires.t in
     new-unkept asked (unmarked _ _ c.requires.good_plan _ c.requires.t_bound c.if-plan-t-eq0.true) _
-
-pub bounds-r-0 : goal.bounds-r-0
-bounds-r-0 c =
-    omega (arith, c.requires.r_len, c.requires.good_plan.good.wide _ c.requires.t_bound)
 
 pub find_key-requires : goal.find_key-requires
 find_key-requires c =

@@ -3,29 +3,13 @@
 use mathlib.Core.Path.{refl}
 use Rattle.lists.specs.Loops.{filled}
 use Rattle.lists.proofs.Loops.{filled_more}
-use Rattle.side_table.proofs.Shown.{shown-place, shown-column, shown-value, shown-end}
+use Rattle.side_table.proofs.Shown.{shown-column, shown-value, shown-end}
 use native.Mathlib.Omega.{arith}
 use Rattle.side_table.proofs.side_row.Goals as goal
 
 pub loop-j-init : goal.loop-j-init
 unfolding filled
 loop-j-init c = refl
-
-pub overflow_mul-row : goal.overflow_mul-row
-overflow_mul-row c =
-    omega (arith, shown-place c.requires.good_plan _ c.requires.t_bound _ _ c.requires.row_len c.loop-j-test.true)
-
-pub overflow_add-row : goal.overflow_add-row
-overflow_add-row c =
-    omega (arith, shown-place c.requires.good_plan _ c.requires.t_bound _ _ c.requires.row_len c.loop-j-test.true)
-
-pub offset_bounds-plan-t : goal.offset_bounds-plan-t
-offset_bounds-plan-t c =
-    omega (arith, shown-place c.requires.good_plan _ c.requires.t_bound _ _ c.requires.row_len c.loop-j-test.true)
-
-pub bounds-plan-t : goal.bounds-plan-t
-bounds-plan-t c =
-    omega (arith, shown-place c.requires.good_plan _ c.requires.t_bound _ _ c.requires.row_len c.loop-j-test.true)
 
 pub offset_bounds-r-plan : goal.offset_bounds-r-plan
 offset_bounds-r-plan c =
