@@ -233,10 +233,10 @@ fn length_for(sheet: &[u64], was: usize) -> usize {
     }
 }
 
+// Copies as many as there is place for.
 fn copy(words: &[u64], to: &mut [u64]) {
-    for (place, word) in to.iter_mut().zip(words) {
-        *place = *word;
-    }
+    let n = words.len().min(to.len());
+    to[..n].copy_from_slice(&words[..n]);
 }
 
 fn sheet_line(numbers: &[u8], sheet: &mut [u64], size: Size) -> Size {

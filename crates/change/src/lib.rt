@@ -5,6 +5,7 @@ ghost use Rattle.meaning.specs.Change as Meant;
 ghost use Rattle.meaning.specs.Base.{change_of};
 ghost use Rattle.store.specs.Answers.{Says};
 
+use change_asked::Kind;
 use sheet::Refusal;
 use store::Done;
 
@@ -25,6 +26,7 @@ pub fn change(
     if store.len() != plan.store {
         return Err(Refusal::WrongLength);
     }
+    let kind = Kind::try_from(kind)?;
     change_asked::asked(sheet, kind, table, old, new)?;
     if !store::is_sound(&plan, store) {
         return Err(Refusal::NotSound);

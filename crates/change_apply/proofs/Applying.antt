@@ -1,10 +1,9 @@
 -- What a change that passes tests 5 and 6 is, kind by kind; and what it leaves is sound.
 -- Assumes nothing.
 use Prim.Native.Nat.{ℕ, ◌<◌}
-use mathlib.Core.Path.{◌≡◌, refl, sym, ◌∙◌, subst}
+use mathlib.Core.Path.{◌≡◌, refl, sym, subst}
 use mathlib.Core.Bool.{Bool, true, false, cond, ◌&&◌}
 use mathlib.Core.List.{[], ◌∷◌}
-use native.Mathlib.Omega.{arith}
 use lib.Dec.{T, ltb, eqb, ltb→lt}
 use lib.ListN.{length}
 use Rattle.lists.specs.Lists.{Words}
@@ -23,7 +22,7 @@ use Rattle.laws.proofs.Updates.{tied-get}
 use Rattle.sheet.proofs.Words.{n-is}
 use Rattle.std.specs.Prelude.{Ok}
 use Rattle.change_asked.specs.Asked.{asked_of}
-use Rattle.change_asked.proofs.Tests.{asked-good, no_kind}
+use Rattle.change_asked.proofs.Tests.{asked-good}
 use Rattle.sheet_plan.specs.declared.Plan.{Plan}
 use Rattle.walk.specs.Grounds.{Lent}
 use Rattle.store.specs.Answers.{Says}
@@ -104,9 +103,6 @@ module _ (ws : Words) (kind t : ℕ) (r r' : Row) (h : asked_of ws (change_of ki
 
   pub updates : Good (sheet_of ws) → kind ≡ 3 → Lent ws t r × (Lent ws t r' × Tied (sheet_of ws) t r r')
   updates g e = let k = asked-as 3 e in (update-old ws t r r' k, (update-new ws t r r' k, update-tied ws t r r' k g))
-
-  pub no_other : (kind ≡ 1 → ⊥) → (kind ≡ 2 → ⊥) → (kind ≡ 3 → ⊥) → ⊥
-  no_other a b c = let e = no_kind ws kind t r r' a b c ∙ h in let q : ◌≡◌ {A = ℕ} 0 1 = cc in omega arith
 
   module _ (store : Words) (plan : Plan) (ready : Ready ws store plan) (a : Result Done Refusal) (exit : Words) where
     pub applies : (k : ℕ) → kind ≡ k → Says (applied (sheet_of ws) store (change_of k t r r')) a exit → Applies ws store (change_of kind t r r') a exit

@@ -3,32 +3,33 @@
 
 ghost use Rattle.std.specs.Prelude.{◌≡◌, Ok};
 ghost use Rattle.meaning.specs.Base.{change_of};
+ghost use Rattle.change_asked.specs.Kinds.{kind_number};
 ghost use Rattle.change_asked.specs.Asked.{asked_of};
 ghost use Rattle.change_laws.specs.Ready.{Ready};
 ghost use Rattle.change_apply.specs.Applies.{Applies};
 
+use change_asked::Kind;
 use sheet::Refusal;
 use sheet_plan::Plan;
 use store::Done;
 
-// The change that was asked for, by its kind; no other kind passes the tests.
+// The change that was asked for, by its kind.
 pub fn apply(
     sheet: &[u64],
     plan: &Plan,
     store: &mut [u64],
-    kind: u64,
+    kind: Kind,
     table: usize,
     old: &[u64],
     new: &[u64],
 ) -> Result<Done, Refusal>
     requires ready { Ready sheet.now store.old plan.now }
-    requires value { asked_of sheet.now (change_of kind table old.now new.now) ≡ Ok tt }
-    ensures { Applies sheet.now store.old (change_of kind table old.now new.now) result store.new }
+    requires value { asked_of sheet.now (change_of (kind_number kind) table old.now new.now) ≡ Ok tt }
+    ensures { Applies sheet.now store.old (change_of (kind_number kind) table old.now new.now) result store.new }
 {
     match kind {
-        1 => change_insert::insert(sheet, plan, store, table, new),
-        2 => change_delete::delete(sheet, plan, store, table, old),
-        3 => change_update::update(sheet, plan, store, table, old, new),
-        0 | 4..=u64::MAX => Err(Refusal::BadRequest),
+        Kind::Insert => change_insert::insert(sheet, plan, store, table, new),
+        Kind::Delete => change_delete::delete(sheet, plan, store, table, old),
+        Kind::Update => change_update::update(sheet, plan, store, table, old, new),
     }
 }

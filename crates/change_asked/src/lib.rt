@@ -1,14 +1,18 @@
 // What a change asks, against the sheet alone: its kind, its table, its rows, and the columns that an update may not alter (refusals 5 and 6).
 #![tactic(auto)]
 
+mod kind;
+
 ghost use Rattle.std.specs.Prelude.{◌≡◌, ◌&&◌, ℕ, ◌+◌, ◌<◌, ◌≤◌, eqb, length};
 ghost use Rattle.lists.specs.Loops.{every, some};
 ghost use Rattle.meaning.specs.Sheet.{condition_count};
 ghost use Rattle.meaning.specs.Base.{change_of};
 ghost use Rattle.sheet.specs.Rules.{Counts};
 ghost use Rattle.sheet.specs.Tree.{GoodSheet};
+ghost use Rattle.change_asked.specs.Kinds.{kind_number};
 ghost use Rattle.change_asked.specs.Asked.{condition_on, tied_no, stays_at, one_row, two_rows, asked_of};
 
+pub use kind::Kind;
 use sheet::Refusal;
 
 // Whether a condition speaks of column c of table t.
@@ -74,9 +78,9 @@ fn two_rows(sheet: &[u64], t: usize, old: &[u64], new: &[u64], w: usize) -> Resu
 }
 
 // The verdict on a change before the store is read.
-pub fn asked(sheet: &[u64], kind: u64, table: u64, old: &[u64], new: &[u64]) -> Result<(), Refusal>
+pub fn asked(sheet: &[u64], kind: Kind, table: u64, old: &[u64], new: &[u64]) -> Result<(), Refusal>
     requires { GoodSheet sheet.now }
-    ensures { result ≡ asked_of sheet.now (change_of kind table old.now new.now) }
+    ensures { result ≡ asked_of sheet.now (change_of (kind_number kind) table old.now new.now) }
 {
     if sheet::tables(sheet) as u64 <= table {
         return Err(Refusal::BadRequest);
@@ -84,9 +88,8 @@ pub fn asked(sheet: &[u64], kind: u64, table: u64, old: &[u64], new: &[u64]) -> 
     let t = table as usize;
     let w = sheet::width_no(sheet, t);
     match kind {
-        1 => one_row(old, new, w),
-        2 => one_row(new, old, w),
-        3 => two_rows(sheet, t, old, new, w),
-        0 | 4..=u64::MAX => Err(Refusal::BadRequest),
+        Kind::Insert => one_row(old, new, w),
+        Kind::Delete => one_row(new, old, w),
+        Kind::Update => two_rows(sheet, t, old, new, w),
     }
 }

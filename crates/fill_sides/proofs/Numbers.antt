@@ -1,16 +1,13 @@
 -- The numbers of a table's rows in key order: where they stand, that each is one of the table's, and that their rows' keys rise.
 -- Assumes nothing.
-use Prim.Native.Nat.{ℕ, zero, suc, ◌+◌, ◌-◌, ◌*◌, ◌<◌}
+use Prim.Native.Nat.{ℕ, zero, suc, ◌*◌, ◌<◌}
 use mathlib.Core.Path.{◌≡◌, refl, sym, ap, ◌∙◌}
 use mathlib.Core.List.{List, [], ◌∷◌}
 use native.Mathlib.Nat.{not-suc-le-zero, le_of_suc-le-suc}
 use native.Mathlib.Omega.{arith}
-use lib.ListN.{length, get_or, drop, length-map}
-use lib.Seq.{get_or-take, get_or-drop}
+use lib.ListN.{length, get_or, length-map}
 use Rattle.lists.specs.Lists.{Words, at, up_to}
 use Rattle.lists.specs.Totals.{total, Same}
-use Rattle.lists.specs.Parts.{part}
-use Rattle.lists.proofs.Parts.{length_part}
 use Rattle.rows.specs.Rows.{Rows, key}
 use Rattle.rows.proofs.Cut.{cut_at}
 use Rattle.rows.proofs.Search.{row-key}

@@ -29,7 +29,7 @@ use Rattle.filling.specs.Runs.{row_no}
 use Rattle.filling.specs.Qualifies.{passing, numbered, side_rows}
 use Rattle.places.proofs.Laid.{laid_none, laid_more}
 use Rattle.filling.proofs.Sides.{side-none, side-hit, side-miss, side-all}
-use Rattle.base_run.specs.Bases.{tables_of, numbers_of, Laid}
+use Rattle.base_run.specs.Bases.{tables_of, numbers_of}
 use Rattle.base_run.proofs.Steps.{good_of}
 use Rattle.base_qualified.specs.Qualifying.{passes_no}
 use Rattle.base_qualified.proofs.Bases.{Based}

@@ -182,11 +182,8 @@ pub none-stand : (p : Part) (count : ℕ) (ws : Words) → Standing p 0 count ws
 unfolding loose_rows
 none-stand p count ws = record { fits = omega arith; up = rw (cut-zero p.columns (words_in p ws)) rising_none }
 
--- room for row k, and that many rows
+-- room for that many rows
 module _ (p : Part) (ws : Words) (win : Within p ws) where
-  pub row_room : (k : ℕ) → k < p.room → k * p.columns + p.columns ≤ length (words_in p ws)
-  row_room k l = row_fits p.columns p.room k (length (words_in p ws)) l (omega (arith, part-long p ws win))
-
   pub rows-room : (k : ℕ) → k ≤ p.room → k * p.columns ≤ length (words_in p ws)
   rows-room k l = omega (arith, part-long p ws win, mul-le-mul_right p.columns l)
 

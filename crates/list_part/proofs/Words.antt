@@ -22,20 +22,11 @@ use Rattle.meaning.specs.Sheet.{Listed, sheet_of, listed_count}
 use Rattle.meaning.specs.Change.{with_columns}
 use Rattle.laws.proofs.Lists.{at-up_to, length-up_to}
 use Rattle.laws.proofs.Columns.{with-length}
-use Rattle.sheet.specs.Numbered.{width_no, listing_no}
+use Rattle.sheet.specs.Numbered.{listing_no}
 use Rattle.sheet.specs.Read.{ReadsListing}
-use Rattle.sheet.specs.Rules.{Rules}
 use Rattle.sheet.specs.declared.reading.Listing.{Listing}
 use Rattle.sheet.proofs.Words.{listed-are}
-use Rattle.list_part.specs.Gives.{gives, shows, row_shows, row_with, Fits}
-
--- a listed column of r's table is one of r's
-pub column-in : (ws : Words) (t : ℕ) (r : Row) (p j : ℕ) (l : Listing) → Rules ws → Fits ws t r → p ≡ listed_count ws → j < p → ReadsListing ws j l
-    → l.table ≡ t → l.column < length r
-column-in ws t r p j l rules f many within reads e =
-    let h : (listing_no ws j).column < width_no ws (listing_no ws j).table = (rules.listings j (rw many at within)).there.within in
-    let w : width_no ws (listing_no ws j).table ≡ width_no ws t = ap (width_no ws) (sym reads.table_is ∙ e) in
-    omega (arith, f.wide, reads.column-is)
+use Rattle.list_part.specs.Gives.{gives, shows, row_shows, row_with}
 
 with_at : (ls : List Listed) (t : ℕ) (r row : Row) (j : ℕ) (d : Listed) → length row ≡ length ls → j < length ls
     → at (with_columns ls t r row) j ≡ cond (eqb (get_or ls j d).table t) (at r (get_or ls j d).column) (at row j)

@@ -1,10 +1,10 @@
 -- A region with a row put in or taken out: it is again a region, of the rows with that row put or taken.
 -- Assumes nothing.
-use Prim.Native.Nat.{ℕ, zero, suc, ◌+◌, ◌-◌, ◌*◌, ◌<◌, ◌≤◌, zero-le}
+use Prim.Native.Nat.{ℕ, zero, suc, ◌+◌, ◌-◌, ◌*◌, ◌<◌, ◌≤◌}
 use mathlib.Core.Path.{◌≡◌, refl, sym, ap, ap₂, ◌∙◌}
 use mathlib.Core.Bool.{Bool, true, false, cond, ◌||◌, true≢false}
 use mathlib.Core.List.{List, [], ◌∷◌, ◌++◌, append_assoc}
-use native.Mathlib.Nat.{not-suc-le-zero, le_refl, suc-mul, add-mul, zero-mul, mul-le-mul_right, le_of_suc-le-suc}
+use native.Mathlib.Nat.{not-suc-le-zero, le_refl, suc-mul, add-mul, mul-le-mul_right, le_of_suc-le-suc}
 use native.Mathlib.Omega.{arith}
 use native.Mathlib.Numerals.{add-one}
 use lib.Dec.{T, eqb}
@@ -65,13 +65,6 @@ holds w n rows s e g = record { words = region-words w n s g ∙ ap (laid (lengt
 -- the same rows, said otherwise
 pub holds_same : (w n : ℕ) (rows rows' : Rows) (s : Words) → rows ≡ rows' → Holds w n rows s → Holds w n rows' s
 holds_same w n rows rows' s e h = holds w n rows' s (h.rows ∙ e) h.region
-
--- a run of zeros is a region without rows
-pub region-none : (w k : ℕ) → Region w 0 (replicate k 0)
-unfolding cut rising
-region-none w k =
-    let z : 0 * w ≡ 0 = zero-mul w in
-    record { fits = rw z zero-le; up = tt; zeros = rw z (all-zeros k) }
 
 -- a region holds its rows, and the rows that a run holds are as many as it says
 pub region-holds : (w n : ℕ) (s : Words) → Region w n s → Holds w n (cut w n s) s

@@ -185,13 +185,6 @@ module _ (m n : ℕ) (xs ys : Words) (r : Numbers m xs) (q : Numbers n ys) (h : 
       under i (inl a) = omega (arith, a.1, r.below i a.0)
       under i (inr a) = omega (arith, a.2, q.below (i - length xs) a.1)
 
-pub numbers-snoc : (m n : ℕ) (numbers : Words) → Numbers m numbers → (x : ℕ) → m ≤ x → x < n → Numbers n (numbers ++ (x ∷ []))
-numbers-snoc m n numbers r x h l = numbers-append m n numbers (x ∷ []) r (numbers-one n x l) (omega arith) (λ i g. only i g)
-  where
-    only : (i : ℕ) → i < 1 → m ≤ at (x ∷ []) i
-    only zero g = h
-    only (suc i) g = absurd (omega arith)
-
 -- One number more, in its gap
 module _ (n : ℕ) (numbers : Words) (r : Numbers n numbers) (first x k : ℕ) (g : Gap numbers first x k) where
   front : Numbers x (take k numbers)

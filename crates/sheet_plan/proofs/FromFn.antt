@@ -22,7 +22,8 @@ abbrev pub Says : {F : Type 0} → Mut F (ℕ × Unit {0}) ℕ → F → (ℕ �
 Says {F} g f P = (k r : ℕ) (q : F) → Called g f (k, tt) r q → (q ≡ f) × P k r
 
 module _ {F : Type 0} (g : Mut F (ℕ × Unit {0}) ℕ) (f : F) where
-  each-from : (P : ℕ → ℕ → Type 0) → Says g f P → (ys : List ℕ) (i n : ℕ) → IsFromFnResultFrom g f ys i n → (k : ℕ) → i ≤ k → k < i + n → P k (get_or ys k 0)
+  each-from : (P : ℕ → ℕ → Type 0) → Says g f P → (ys : List ℕ) (i n : ℕ) → IsFromFnResultFrom g f ys i n
+      → (k : ℕ) → i ≤ k → k < i + n → P k (get_or ys k 0)
   each-from P says ys i zero made k a b = absurd (omega arith)
   each-from P says ys i (suc n) made k a b =
       let s = says i made.1 made.0 made.3 in
@@ -31,14 +32,16 @@ module _ {F : Type 0} (g : Mut F (ℕ × Unit {0}) ℕ) (f : F) where
       (λ l. each-from P says ys (i + 1) n (subst (λ (q : F). IsFromFnResultFrom g q ys (i + 1) n) s.0 made.4) k (omega arith) (omega arith))
       (eq-or-lt_of_le a)
 
-  pub each-from_from_fn : (P : ℕ → ℕ → Type 0) (ys : List ℕ) (n : ℕ) → IsFromFnResult g f ys n → Says g f P → (k : ℕ) → k < n → P k (get_or ys k 0)
+  each-from_from_fn : (P : ℕ → ℕ → Type 0) (ys : List ℕ) (n : ℕ) → IsFromFnResult g f ys n → Says g f P
+      → (k : ℕ) → k < n → P k (get_or ys k 0)
   each-from_from_fn P ys n made says k l = each-from P says ys 0 n made.each k (omega arith) (omega arith)
 
   -- h in each of the first n places, and 0 behind them
-  pub filled-from_from_fn : (h : ℕ → ℕ) (ys : List ℕ) (n m : ℕ) → IsFromFnResult g f ys m → n ≤ m → Says g f (λ k r. (k < n → r ≡ h k) × (n ≤ k → r ≡ 0))
-      → ys ≡ filled h n (replicate m 0)
+  pub filled-from_from_fn : (h : ℕ → ℕ) (ys : List ℕ) (n m : ℕ) → IsFromFnResult g f ys m → n ≤ m
+      → Says g f (λ k r. (k < n → r ≡ h k) × (n ≤ k → r ≡ 0)) → ys ≡ filled h n (replicate m 0)
   filled-from_from_fn h ys n m made l says =
-      ext_get_or 0 ys (filled h n (replicate m 0)) (made.long ∙ sym (length-filled h n (replicate m 0) ∙ long)) (λ k a. at k (omega (arith, made.long)))
+      ext_get_or 0 ys (filled h n (replicate m 0)) (made.long ∙ sym (length-filled h n (replicate m 0) ∙ long))
+      (λ k a. at k (omega (arith, made.long)))
     where
       long : length (replicate {A = ℕ} m 0) ≡ m
       long = length-replicate {A = ℕ} m 0
@@ -52,10 +55,12 @@ module _ {F : Type 0} (g : Mut F (ℕ × Unit {0}) ℕ) (f : F) where
           (cases_lt k n)
 
   -- h in each place
-  pub all-filled-from_from_fn : (h : ℕ → ℕ) (ys : List ℕ) (m : ℕ) → IsFromFnResult g f ys m → Says g f (λ k r. r ≡ h k) → ys ≡ filled h m (replicate m 0)
+  pub all-filled-from_from_fn : (h : ℕ → ℕ) (ys : List ℕ) (m : ℕ) → IsFromFnResult g f ys m → Says g f (λ k r. r ≡ h k)
+      → ys ≡ filled h m (replicate m 0)
   all-filled-from_from_fn h ys m made says =
-      ext_get_or 0 ys (filled h m (replicate m 0)) (made.long ∙ sym (length-filled h m (replicate m 0) ∙ long)) (λ k a.
-      each-from_from_fn (λ k r. r ≡ h k) ys m made says k (omega (arith, made.long)) ∙ sym (get_or-filled h m k 0 (replicate m 0) (omega (arith, made.long)) (omega (arith, long))))
+      ext_get_or 0 ys (filled h m (replicate m 0)) (made.long ∙ sym (length-filled h m (replicate m 0) ∙ long))
+      (λ k a. let l : k < m = omega (arith, made.long) in
+      each-from_from_fn (λ k r. r ≡ h k) ys m made says k l ∙ sym (get_or-filled h m k 0 (replicate m 0) l (omega (arith, long))))
     where
       long : length (replicate {A = ℕ} m 0) ≡ m
       long = length-replicate {A = ℕ} m 0

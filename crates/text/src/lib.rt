@@ -23,10 +23,6 @@ pub fn reply(reader: Reader, out: &mut [u8; PAGE]) -> usize
     if r.failed {
         return put_unread(out);
     }
-    let words = r.words;
-    let many = r.many;
-    if HELD <= many {
-        return put_plan_of(&words, out);
-    }
-    put_plan_of(&words[..many], out)
+    let many = r.many.min(HELD);
+    put_plan_of(&r.words[..many], out)
 }

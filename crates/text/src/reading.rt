@@ -8,7 +8,7 @@ use sheet::SHEET_WORDS;
 pub const HELD: usize = SHEET_WORDS + 1;
 
 // What has been read so far: the numbers that have ended, the number in hand if one has begun, and
-// whether the text is no text of numbers.
+// whether the text is no text of numbers. How many words there are stands beside them, since a vector would be on the heap.
 #[derive(Clone, Copy)]
 pub struct Reader {
     pub words: [u64; HELD],

@@ -1,26 +1,27 @@
--- `apply` meets its contract: each arm of the match is one kind, and no other kind comes to it.
+-- `apply` meets its contract: each arm of the match is one kind.
 -- Assumes nothing.
-use Rattle.change_apply.proofs.Applying.{inserts, deletes, updates, no_other, applies}
-use native.Mathlib.Omega.{arith}
+use Rattle.change_apply.proofs.Applying.{inserts, deletes, updates, applies}
+use mathlib.Core.Path.{ap}
+use Rattle.change_asked.specs.Kinds.{kind_number}
 use Rattle.change_apply.proofs.apply.Goals as goal
 
 pub insert-requires : goal.insert-requires
 insert-requires c =
     record {
       ready = c.requires.ready;
-      lent = inserts _ _ _ _ _ c.requires.value c.in-1.is;
+      lent = inserts _ _ _ _ _ c.requires.value (ap kind_number c.in-Insert.is);
     }
 
 pub delete-requires : goal.delete-requires
 delete-requires c =
     record {
       ready = c.requires.ready;
-      lent = deletes _ _ _ _ _ c.requires.value c.in-2.is;
+      lent = deletes _ _ _ _ _ c.requires.value (ap kind_number c.in-Delete.is);
     }
 
 pub update-requires : goal.update-requires
 update-requires c =
-    let both = updates _ _ _ _ _ c.requires.value c.requires.ready.planned.good c.in-3.is in
+    let both = updates _ _ _ _ _ c.requires.value c.requires.ready.planned.good (ap kind_number c.in-Update.is) in
     record {
       ready = c.requires.ready;
       lent = both.0;
@@ -28,22 +29,14 @@ update-requires c =
       tied = both.1.1;
     }
 
-pub returns-in-1 : goal.returns-in-1
-returns-in-1 c =
-    applies _ _ _ _ _ c.requires.value _ _ c.requires.ready _ _ 1 c.in-1.is (c.insert.ensures.says _)
+pub returns-in-Insert : goal.returns-in-Insert
+returns-in-Insert c =
+    applies _ _ _ _ _ c.requires.value _ _ c.requires.ready _ _ 1 (ap kind_number c.in-Insert.is) (c.insert.ensures.says _)
 
-pub returns-in-2 : goal.returns-in-2
-returns-in-2 c =
-    applies _ _ _ _ _ c.requires.value _ _ c.requires.ready _ _ 2 c.in-2.is (c.delete.ensures.says _)
+pub returns-in-Delete : goal.returns-in-Delete
+returns-in-Delete c =
+    applies _ _ _ _ _ c.requires.value _ _ c.requires.ready _ _ 2 (ap kind_number c.in-Delete.is) (c.delete.ensures.says _)
 
-pub returns-in-3 : goal.returns-in-3
-returns-in-3 c =
-    applies _ _ _ _ _ c.requires.value _ _ c.requires.ready _ _ 3 c.in-3.is c.update.ensures.says
-
-pub returns-in-0 : goal.returns-in-0
-returns-in-0 c =
-    absurd (no_other _ _ _ _ _ c.requires.value (λ q. omega arith) (λ q. omega arith) (λ q. omega arith))
-
-pub returns-in-0-2 : goal.returns-in-0-2
-returns-in-0-2 c =
-    absurd (no_other _ _ _ _ _ c.requires.value (λ q. omega arith) (λ q. omega arith) (λ q. omega arith))
+pub returns-in-Update : goal.returns-in-Update
+returns-in-Update c =
+    applies _ _ _ _ _ c.requires.value _ _ c.requires.ready _ _ 3 (ap kind_number c.in-Update.is) c.update.ensures.says

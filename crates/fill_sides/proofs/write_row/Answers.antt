@@ -2,7 +2,6 @@
 -- Assumes nothing.
 use Rattle.rows.proofs.Moves.{written_start}
 use Rattle.fill_sides.proofs.Rows.{column-more}
-use native.Mathlib.Omega.{arith}
 use Rattle.fill_sides.proofs.write_row.Goals as goal
 
 pub loop-k-init : goal.loop-k-init

@@ -1,6 +1,5 @@
 -- `write_sides` meets its contract.
 -- Assumes nothing.
-use mathlib.Core.Path.{◌∙◌}
 use Rattle.lists.proofs.Loops.{every-at}
 use Rattle.fill_sides.proofs.Counts.{kept_here}
 use Rattle.fill_sides.proofs.Stores.{store-unkept, store-end}

@@ -1,15 +1,11 @@
 -- `shows_row` meets its contract: each word of the row is the one that it would be given.
 -- Assumes nothing.
-use Rattle.std.proofs.Common.{rules, tests, refl, ◌∙◌, ◌+◌, ◌*◌, eqb, arith}
-use Rattle.std.proofs.lemmas.Iterator.{serves_from_Range}
+use Rattle.std.proofs.Common.{rules, tests, refl, ◌∙◌, ◌+◌, ◌*◌, eqb}
 use Rattle.lists.specs.Lists.{at}
 use Rattle.lists.proofs.Chains.{every-from_all}
 use Rattle.list_part.specs.Gives.{row_with}
 use Rattle.list_part.proofs.Words.{shows-each}
 use Rattle.list_part.proofs.columns.shows_row.Goals as goal
-
-pub all-requires-clause-callable : goal.all-requires-clause-callable
-all-requires-clause-callable c = serves_from_Range (λ x q k. search rules) (λ x a b. search (rules, arith))
 
 pub returns : goal.returns
 returns c =

@@ -1,20 +1,9 @@
 -- `Values::given_row` meets its contract. The loop's invariant: the words before k are given.
 -- Assumes nothing.
-use Rattle.std.proofs.Common.{refl, arith}
+use Rattle.std.proofs.Common.{arith}
 use lib.ListN.{length-set}
 use Rattle.list_part.proofs.Given.{word_more, word_end}
 use Rattle.list_part.proofs.columns.Values.given_row.Goals as goal
-
-pub loop-k-init : goal.loop-k-init
-loop-k-init c = (refl, refl)
-
-pub word-requires : goal.word-requires
-word-requires c =
-    record {
-      fit = c.requires.fit;
-      s_in_bounds = c.requires.s_in_bounds;
-      k_bound = rw (← c.listed-k-end.ensures) c.loop-k-test.true;
-    }
 
 pub loop-k-preserved : goal.loop-k-preserved
 loop-k-preserved c = (

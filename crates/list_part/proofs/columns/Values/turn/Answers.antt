@@ -1,22 +1,10 @@
 -- `Values::turn` meets its contract. The loop's invariant: the listed columns before k do not say which way.
 -- Assumes nothing.
-use Rattle.std.proofs.Common.{refl, sym, ◌∙◌, ◌<◌}
+use Rattle.std.proofs.Common.{sym, ◌∙◌, ◌<◌}
 use Rattle.meaning.specs.Sheet.{listed_count}
-use Rattle.list_part.proofs.Words.{column-in}
 use Rattle.list_part.proofs.Given.{turn-other, turn-way, turn-same, turn_end}
 use Rattle.list_part.proofs.columns.Values.turn.Goals.{then-l-self+else-is_ne, else-l-self}
 use Rattle.list_part.proofs.columns.Values.turn.Goals as goal
-
-pub loop-k-init : goal.loop-k-init
-loop-k-init c = refl
-
-pub bounds-self-l : goal.bounds-self-l
-bounds-self-l c =
-    column-in _ _ _ _ _ _ c.requires.fit.rules c.requires.fit.fits c.listed-k-end.ensures c.loop-k-test.true c.listing_no-l.ensures c.if-l-self.true
-
-pub bounds-old-l : goal.bounds-old-l
-bounds-old-l c =
-    column-in _ _ _ _ _ _ c.requires.fit.rules c.requires.fits c.listed-k-end.ensures c.loop-k-test.true c.listing_no-l.ensures c.if-l-self.true
 
 pub returns-then-is_ne : goal.returns-then-is_ne
 returns-then-is_ne c =
