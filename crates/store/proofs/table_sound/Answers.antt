@@ -1,12 +1,9 @@
 -- `store::table_sound` meets its contract, for an unkept table and for a kept one.
 -- Assumes nothing.
 use Rattle.std.proofs.Common.{ap, eqb, arith}
-use Rattle.store.proofs.Plans.{few, within-store, has-columns}
+use Rattle.store.proofs.Plans.{within-store, has-columns}
 use Rattle.store.proofs.Whole.{unkept-is, kept-is}
 use Rattle.store.proofs.table_sound.Goals as goal
-
-pub part_of-p-requires : goal.part_of-p-requires
-part_of-p-requires c = record { number_le_tables = omega arith; tables_le_most_tables = few _ c.requires.of_sheet }
 
 pub count-requires : goal.count-requires
 count-requires c = within-store _ c.requires.of_sheet _ _ _ (omega arith) c.part_of-p.ensures c.requires.store_len
