@@ -18,7 +18,8 @@ use Rattle.lists.proofs.Truth.{is_t, F→≡, same_test, mem-select, up_to-mem, 
 use Rattle.lists.proofs.Loops.{get_or-filled}
 use Rattle.lists.proofs.Places.{length_from, get_or-map-from}
 use Rattle.meaning.specs.Sheet.{Sheet, sheet_of, sheet_refusal, width, has_column}
-use Rattle.meaning.specs.Plan.{TablePlan, root, edge_into, others, dep, need, need_in, key_listed, kept, is_shown, shown, table_plan, good_plan, no_plan, in_order, plan}
+use Rattle.meaning.specs.Plan.{TablePlan, root, edge_into, others, dep, need, need_in, key_listed}
+use Rattle.meaning.specs.Plan.{kept, is_shown, shown, table_plan, good_plan, no_plan, in_order, plan}
 use Rattle.laws.specs.Sheets as Sheets
 use Rattle.laws.proofs.Sheets as SheetLaws
 use Rattle.laws.proofs.Trees.{child-of}

@@ -3,7 +3,8 @@
 use mathlib.Core.Path.{◌≡◌, refl, sym, ap, ◌∙◌}
 use native.Mathlib.Omega.{arith}
 use Rattle.sheet.specs.declared.refusal.Refusal.{Refusal}
-use Rattle.sheet.specs.declared.refusal.Refusal.TheVariants.{BadCounts, BadWords, NoTree, WrongLength, BadRequest, AltersTied, NotSound, Contradiction, NoRoom, BadBase}
+use Rattle.sheet.specs.declared.refusal.Refusal.TheVariants.{BadCounts, BadWords, NoTree, WrongLength, BadRequest}
+use Rattle.sheet.specs.declared.refusal.Refusal.TheVariants.{AltersTied, NotSound, Contradiction, NoRoom, BadBase}
 use Rattle.sheet.specs.Refusals.{refusal_number, refusal_of}
 
 pub never-zero : (r : Refusal) → refusal_number r ≡ 0 → ⊥

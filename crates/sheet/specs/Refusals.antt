@@ -3,7 +3,8 @@
 use Rattle.std.specs.Prelude.{ℕ, pred, List, [], ◌∷◌, get_or, Result, Ok, Err}
 use Rattle.meaning.specs.Answers.{bad_counts, bad_words, no_tree, wrong_length, bad_change, alters_tied, not_sound, contradiction, no_room, bad_base}
 use Rattle.sheet.specs.declared.refusal.Refusal.{Refusal}
-use Rattle.sheet.specs.declared.refusal.Refusal.TheVariants.{BadCounts, BadWords, NoTree, WrongLength, BadRequest, AltersTied, NotSound, Contradiction, NoRoom, BadBase}
+use Rattle.sheet.specs.declared.refusal.Refusal.TheVariants.{BadCounts, BadWords, NoTree, WrongLength, BadRequest}
+use Rattle.sheet.specs.declared.refusal.Refusal.TheVariants.{AltersTied, NotSound, Contradiction, NoRoom, BadBase}
 
 -- the one that a change and the show call share is named by the change's
 abbrev pub refusal_number : Refusal → ℕ
