@@ -12,42 +12,29 @@ part_of-p-requires c =
       tables_le_most_tables = both.1;
     }
 
-pub overflow_mul-to : goal.overflow_mul-to
-overflow_mul-to c =
-    omega (arith, part-within c.requires c.part_of-p.ensures)
+pub overflow_add-shown : goal.overflow_add-shown
+overflow_add-shown c = omega (arith, columns-end c.requires c.part_of-p.ensures)
 
-pub overflow_add-to : goal.overflow_add-to
-overflow_add-to c =
-    omega (arith, part-within c.requires c.part_of-p.ensures)
+pub slice_bounds-shown-end : goal.slice_bounds-shown-end
+slice_bounds-shown-end c = omega (arith, columns-end c.requires c.part_of-p.ensures)
 
-pub overflow_add-last : goal.overflow_add-last
-overflow_add-last c =
-    omega (arith, columns-end c.requires c.part_of-p.ensures)
+pub end-requires : goal.end-requires
+end-requires c = omega (arith, part-within c.requires c.part_of-p.ensures)
+
+pub offset_bounds-store-p : goal.offset_bounds-store-p
+offset_bounds-store-p c = omega (arith, part-within c.requires c.part_of-p.ensures)
 
 pub slice_bounds-write_part-end : goal.slice_bounds-write_part-end
-slice_bounds-write_part-end c =
-    omega (arith, columns-end c.requires c.part_of-p.ensures)
-
-pub offset_bounds-store-from : goal.offset_bounds-store-from
-offset_bounds-store-from c =
-    omega (arith, part-within c.requires c.part_of-p.ensures)
-
-pub slice_bounds-write_part-end-2 : goal.slice_bounds-write_part-end-2
-slice_bounds-write_part-end-2 c =
-    omega (arith, part-within c.requires c.part_of-p.ensures)
+slice_bounds-write_part-end c = omega (arith, c.end.ensures, part-within c.requires c.part_of-p.ensures)
 
 pub write_part-many-requires : goal.write_part-many-requires
-write_part-many-requires c =
-    part-ready c.requires c.part_of-p.ensures
+write_part-many-requires c = rw c.end.ensures (part-ready c.requires c.part_of-p.ensures)
 
-pub offset_bounds-store-slot : goal.offset_bounds-store-slot
-offset_bounds-store-slot c =
-    omega (arith, part-within c.requires c.part_of-p.ensures)
+pub offset_bounds-store-p-2 : goal.offset_bounds-store-p-2
+offset_bounds-store-p-2 c = omega (arith, part-within c.requires c.part_of-p.ensures)
 
-pub bounds-store-slot : goal.bounds-store-slot
-bounds-store-slot c =
-    omega (arith, part-within c.requires c.part_of-p.ensures)
+pub bounds-store-p : goal.bounds-store-p
+bounds-store-p c = omega (arith, part-within c.requires c.part_of-p.ensures)
 
 pub returns : goal.returns
-returns c =
-    store-written c.requires c.part_of-p.ensures _ _ c.write_part-many.ensures
+returns c = rw c.end.ensures (store-written c.requires c.part_of-p.ensures _ _ (rw c.end.ensures at c.write_part-many.ensures))
