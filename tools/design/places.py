@@ -77,13 +77,12 @@ def numbers_for_refusals():
 
 
 def none_as_a_number():
-    """1d: functions that answer a number behind the last where there is none."""
+    """1d: functions that answer the number behind the last where there is none."""
     for path, line, name, head, body in functions():
-        if re.search(r"-> usize", head) and re.search(r"return [a-z]\w*;", body) and re.search(r"while|\.find\(", body) and re.search(r"\n\s+[a-z]\w*$", "\n" + body):
-            tail = body.strip().split("\n")[-1].strip()
-            bound = re.search(r"while \w+ < (\w+)", body)
-            if bound and bound.group(1) == tail:
-                yield path, line, name
+        tail = body.strip().split("\n")[-1].strip()
+        bound = re.search(r"while \w+ < (\w+)", body)
+        if "-> usize" in head and (re.search(r"\.find\(.*unwrap_or\(\w+\)", " ".join(body.split())) or bound and bound.group(1) == tail and re.search(r"return [a-z]\w*;", body)):
+            yield path, line, name
 
 
 def skeleton(body):

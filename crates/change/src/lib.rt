@@ -10,7 +10,7 @@ use sheet::Refusal;
 use store::Done;
 
 // Inserts `new` (kind 1), deletes `old` (2) or updates `old` to `new` (3) in a table of which the store holds the side table and the list.
-// A refusal leaves the store untouched.
+// A refusal leaves the store untouched. The kind comes as C gives it, a number.
 pub fn change(
     sheet: &[u64],
     store: &mut [u64],

@@ -9,7 +9,7 @@ ghost use Rattle.sheet.specs.Rules.{Counts};
 ghost use Rattle.sheet.specs.Tree.{Joined, GoodSheet};
 ghost use Rattle.derive.specs.Derived.{dep_no, listed_no, need_no, keeps_no, kept_no, leaves_by};
 
-// The table with no edge into it.
+// The table with no edge into it; there is one, so the n behind the last is never answered.
 pub fn root_of(sheet: &[u64]) -> usize
     requires { GoodSheet sheet.now }
     ensures { result ≡ root (sheet_of sheet.now) }
@@ -104,7 +104,7 @@ pub fn is_kept(sheet: &[u64], t: usize) -> bool
     sheet::edge_into(sheet, t) < e || (0..e).any(|k| keeps_root(sheet, t, k))
 }
 
-// Whether c is the child column of an edge that leaves t.
+// Whether c is the child column of an edge that leaves t. `change_asked::in_condition` asks the like of conditions: each is one chain over its own records.
 pub fn is_child_column(sheet: &[u64], t: usize, c: usize) -> bool
     requires { Counts sheet.now }
     ensures { result ≡ some (leaves_by sheet.now t c) (edge_count sheet.now) }

@@ -124,7 +124,7 @@ pub fn oratjolet_fill(
     tell(a, taken, added)
 }
 
-// The change call: its number, the rows taken from the list and added to it, and the store brought up to date.
+// The change call: its number, the rows taken from the list and added to it, and the store brought up to date. The kind is a number, as C has it.
 pub fn oratjolet_change(
     sheet: &[u64],
     store: &mut [u64],

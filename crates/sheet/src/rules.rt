@@ -86,7 +86,7 @@ fn names_column(sheet: &[u64], k: usize, t: usize, c: usize) -> bool
     l.table == t && l.column == c
 }
 
-// The first of the listings below m that names column c of table t, or m where none does.
+// The first of the listings below m that names column c of table t, or m where none does: a number, as `first` answers it.
 pub fn listing_of(sheet: &[u64], t: usize, c: usize, m: usize) -> usize
     requires counts { Counts sheet.now }
     requires m_bound { m ≤ listed_count sheet.now }

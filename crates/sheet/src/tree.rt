@@ -18,7 +18,7 @@ fn edges_into(sheet: &[u64], t: usize) -> usize
         .count()
 }
 
-// The edge into table t, or e where there is none.
+// The edge into table t, or e where there is none: a number, as the definition `first` answers it.
 pub fn edge_into(sheet: &[u64], t: usize) -> usize
     requires { Counts sheet.now }
     ensures { result ≡ first (goes_no sheet.now t) (edge_count sheet.now) }

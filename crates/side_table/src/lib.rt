@@ -127,7 +127,7 @@ pub fn has_room(sheet: &[u64], plan: &Plan, store: &[u64], t: usize) -> bool
     (store[t] as usize) < plan.rooms[t]
 }
 
-// r's shown columns come into t's side table.
+// r's shown columns come into t's side table. The three that write differ in one call each, which their names say better than a parameter.
 pub fn put_side(sheet: &[u64], plan: &Plan, store: &mut [u64], t: usize, r: &[u64])
     requires good_plan { GoodPlan (sheet_of sheet.now) plan.now }
     requires t_bound { t < (sheet_of sheet.now).n }

@@ -87,7 +87,8 @@ fn absent_zero(store: &[u64], n: usize) -> bool
     store[n..TABLES].iter().all(|&count| count == 0)
 }
 
-// Whether a part is sound: its count within its room, its rows rising, the rest zero, and in a side table (keyed) no key twice.
+// Whether a part is sound: its count within its room, its rows rising, the rest zero, and in a side table no key twice. `keyed` is the definition's
+// own (`sound_in`).
 fn part_sound(store: &[u64], p: Part, keyed: bool) -> bool
     requires within { Within p store.now }
     requires columns_nonzero { keyed ≡ true → 0 < p.columns }
