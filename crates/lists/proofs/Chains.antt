@@ -90,9 +90,11 @@ pub first-from_find : {F : Type 0} {g : Mut F (Bor ℕ × Unit {0}) Bool} {n m :
     → (xs : List ℕ) × (j : F) × YieldsThen nat_range_steps (record { start = 0; end = n }) xs r u
     × FoldsTo (λ p x q. CalledAt g p x false q) f xs j × MatchOption r ⊤ (λ x. (h : F) × CalledAt g j x true h)
     → ((x : ℕ) (b : Bool) (q : F) → CalledAt g f x b q → (q ≡ f) × (b ≡ t x)) → unwrap_or r m ≡ first t m
-first-from_find {n = n} t u f r end ran says = ap (unwrap_or r) (sym end) ∙ go r (first_from_Range _ u f r (λ x. t x ≡ true) (λ x. t x ≡ false) ran (λ x q c. sym (says x true q c).1) (λ x q c. ((says x false q c).0, sym (says x false q c).1))) ∙ ap (first t) end
+first-from_find {n = n} t u f r end ran says = ap (unwrap_or r) (sym end) ∙ go r (first_from_Range _ u f r (λ x. t x ≡ true) (λ x. t x ≡ false) ran
+    (λ x q c. sym (says x true q c).1) (λ x q c. ((says x false q c).0, sym (says x false q c).1))) ∙ ap (first t) end
   where
-    go : (o : Option ℕ) → MatchOption o ((k : ℕ) → 0 ≤ k → k < n → t k ≡ false) (λ i. (0 ≤ i) × (i < n) × (t i ≡ true) × ((k : ℕ) → 0 ≤ k → k < i → t k ≡ false)) → unwrap_or o n ≡ first t n
+    go : (o : Option ℕ) → MatchOption o ((k : ℕ) → 0 ≤ k → k < n → t k ≡ false)
+        (λ i. (0 ≤ i) × (i < n) × (t i ≡ true) × ((k : ℕ) → 0 ≤ k → k < i → t k ≡ false)) → unwrap_or o n ≡ first t n
     go None h = sym (first-none t n (none-below t n h))
     go (Some i) h = sym (first-at t i n h.1 (none-below t i h.3) h.2).1
 

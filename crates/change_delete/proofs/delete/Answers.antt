@@ -68,7 +68,8 @@ pub slice_bounds-marked-end : goal.slice_bounds-marked-end
 slice_bounds-marked-end c =
     omega (
       arith,
-      taken-few c.requires.ready c.requires.lent _ (ready-list c.requires.ready _ c.part_of-list.ensures) _ _ c.mark_ways-count.ensures _ c.in_ok-taken.ensures.ok_part,
+      taken-few c.requires.ready c.requires.lent _ (ready-list c.requires.ready _ c.part_of-list.ensures) _ _ c.mark_ways-count.ensures
+          _ c.in_ok-taken.ensures.ok_part,
       c.mark_ways-count.auto.marked,
     )
 
@@ -76,7 +77,8 @@ pub slice_bounds-take_marked-end : goal.slice_bounds-take_marked-end
 slice_bounds-take_marked-end c =
     sym (length-take-le _ _ (omega (
       arith,
-      taken-few c.requires.ready c.requires.lent _ (ready-list c.requires.ready _ c.part_of-list.ensures) _ _ c.mark_ways-count.ensures _ c.in_ok-taken.ensures.ok_part,
+      taken-few c.requires.ready c.requires.lent _ (ready-list c.requires.ready _ c.part_of-list.ensures) _ _ c.mark_ways-count.ensures
+          _ c.in_ok-taken.ensures.ok_part,
       c.mark_ways-count.auto.marked,
     )))
 
