@@ -60,7 +60,7 @@ def flags_beside():
         text = "\n".join(lines)
         for m in re.finditer(r"struct (\w+)(?:<[^>]*>)? \{([^}]*)\}", text):
             flag = re.search(r"\b(verdict|refusal|number|ended|begun|failed|found|end): (\w+)", m.group(2))
-            if flag and not (flag.group(1) == "end" and flag.group(2) == "usize"):
+            if flag and flag.group(2) not in ("usize", "Option"):
                 yield path, text[:m.start()].count("\n") + 1, m.group(1) + "." + flag.group(1)
 
 

@@ -241,7 +241,7 @@ ends (b ∷ bs) r p =
         ih
         ∙ ap (λ h. first_words (and_then h (read_from (has_begun (after_blank r)) (hand (after_blank r)) bs))) q.more
         ∙ ap₂ (λ t v. first_words (and_then (take most (held r ++ in_hand (has_begun r) (hand r))) (read_from t v bs))) q.empty
-            (no-hand (after_blank r).number q.empty)
+        (no-hand (after_blank r).number q.empty)
         ∙ first-twice (held r) (in_hand (has_begun r) (hand r)) (read_from false 0 bs)
 
     by_size : is_blank b ≡ false → is_digit b ≡ true → (l : Bool) → ltb w (2 ^ 64) ≡ l → ends_as (longer r (b - 48)) bs ≡ long

@@ -34,7 +34,7 @@ module _ {A : Type 0} where
       record {
         new_is = put_mid-paste at (end - at) s items items (length items) refl (omega arith) refl
             ∙ ap (λ (l : List A). take at s ++ l ++ drop (at + length items) s) (take_all (length items) items (omega arith))
-                ∙ sym (sets-eq items s at (omega arith));
+            ∙ sym (sets-eq items s at (omega arith));
         end_is = e;
       }
 

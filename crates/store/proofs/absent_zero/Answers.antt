@@ -9,5 +9,5 @@ use Rattle.store.proofs.absent_zero.Goals as goal
 pub returns : goal.returns
 returns c =
     all_from_yields_List (λ n. eqb n 0) _ _ _ c.all.ensures.ran (YieldsList-from_slice (take (8 - c.args.n) (drop c.args.n c.args.store.now)) cc)
-        (λ x b q k. search (rules, tests))
+    (λ x b q k. search (rules, tests))
     ∙ absent-is _ _ c.requires.few c.requires.long
