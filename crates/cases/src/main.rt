@@ -299,18 +299,23 @@ fn run_line(
 }
 
 // The word that a line begins with says its kind.
-fn kind_of(word: &[u8]) -> Line {
-    match word {
-        b"sheet" => Line::Sheet,
-        b"long" => Line::Long,
-        b"store" => Line::Store,
-        b"every" => Line::Every,
-        b"put" => Line::Put,
-        b"fill" => Line::Fill,
-        b"show" => Line::Show,
-        b"largest" => Line::Largest,
-        _ => Line::Change,
+fn kind_of(line: &[u8]) -> Line {
+    let words: [(&[u8], Line); 8] = [
+        (b"sheet", Line::Sheet),
+        (b"long", Line::Long),
+        (b"store", Line::Store),
+        (b"every", Line::Every),
+        (b"put", Line::Put),
+        (b"fill", Line::Fill),
+        (b"show", Line::Show),
+        (b"largest", Line::Largest),
+    ];
+    for (word, kind) in &words {
+        if line.starts_with(word) {
+            return *kind;
+        }
     }
+    Line::Change
 }
 
 // Where the letters that a line begins with end.

@@ -1,4 +1,4 @@
-// The plan call: any run of words to the whole plan, or to the number of the refusal.
+// The plan call: any run of words to the whole plan, or to its refusal.
 #![tactic(auto)]
 
 ghost use Rattle.std.specs.Prelude.{◌≡◌, ◌≤◌, length};

@@ -16,7 +16,8 @@ use Rattle.std.specs.Option as OptionWords
 use Rattle.std.specs.Option.{unwrap_or}
 use Rattle.lists.specs.Lists.{Words, all, select}
 use Rattle.text.specs.Reading.{Text, is_blank, is_digit, onward, value, before, pieces, is_some, decimals, is_number, Reading, says, isnt, read_text}
-use Rattle.text.specs.Readers.{most, has_begun, hand, fresh, broken, emptied, noted, longer, after_blank, after_byte, after_bytes, finished, reading_of, first_words}
+use Rattle.text.specs.Readers.{most, has_begun, hand, fresh, broken, emptied, noted}
+use Rattle.text.specs.Readers.{longer, after_blank, after_byte, after_bytes, finished, reading_of, first_words}
 use Rattle.text.specs.declared.reading.Reader.{Reader}
 use Rattle.text.proofs.Bytes.{blank, passed, failing, byte-failed, byte-blank, byte-digit, byte-other, digit-longer, digit-broken}
 
