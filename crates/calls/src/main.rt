@@ -107,6 +107,7 @@ fn reply_fill(rt: &impl Print, bytes: &mut [u8; BYTES], runs: Runs) -> Step {
     reply(rt, bytes, number, taken, added, store)
 }
 
+// The kind goes to the call as it came in, whatever it is.
 fn reply_change(
     rt: &impl Print,
     bytes: &mut [u8; BYTES],

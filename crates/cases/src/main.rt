@@ -87,6 +87,7 @@ fn print_answer(rt: &impl Print, answer: Result<Done, Refusal>) {
     print_words(rt, &[sheet::number_of(answer), done.taken, done.added]);
 }
 
+// The kind is the line's own number, since one that is no kind is printed too.
 fn print_kind(rt: &impl Print, kind: u64) {
     match kind {
         1 => print(rt, b"insert"),
