@@ -3,9 +3,11 @@
 
 ghost use Rattle.std.specs.Prelude.{◌≡◌, true};
 ghost use Rattle.meaning.specs.Sheet.{sheet_of};
+ghost use Rattle.meaning.specs.Base.{lawful};
 ghost use Rattle.meaning.specs.Fill as Meant;
 ghost use Rattle.store.specs.Answers.{Says};
 ghost use Rattle.filling.specs.Runs.{good_run};
+ghost use Rattle.base_run.specs.Bases.{tables_of};
 ghost use Rattle.fill.specs.Tested.{Stored};
 
 use base_run::{Base, Ordered, Tables};
@@ -15,7 +17,8 @@ use store::Done;
 
 // Fills from lawful base tables. The first pass counts, and where a count exceeds its room nothing is written.
 fn fill_lawful(base: &Base<'_>, plan: &Plan, store: &mut [u64]) -> Result<Done, Refusal>
-    requires { Stored base.now.ordered.tables.sheet.now plan.now store.old }
+    requires stored { Stored base.now.ordered.tables.sheet.now plan.now store.old }
+    requires lawful { let tables = base.now.ordered.tables in lawful (sheet_of tables.sheet.now) (tables_of tables.sheet.now tables.run.now) ≡ true }
     ensures { let tables = base.now.ordered.tables in Says (Meant.fill tables.sheet.now store.old tables.run.now) result store.new }
 {
     if !fill_sides::sides_fit(base, plan) {

@@ -4,6 +4,7 @@ use mathlib.Core.Path.{refl, sym, ◌∙◌}
 use Prim.Native.Nat.{ℕ}
 use lib.ListN.{length-replicate}
 use Rattle.filling.proofs.Runs.{run-facts}
+use Rattle.base_run.proofs.Tests.{once-lawful}
 use Rattle.fill.proofs.Zeros.{long-enough}
 use Rattle.fill.proofs.Outcomes.{lawful-refused}
 use native.Mathlib.Omega.{arith}
@@ -42,10 +43,10 @@ returns-then-not-is_lawful c =
     lawful-refused c.requires.stored _ c.requires.run_value (sym c.is_lawful.ensures ∙ c.if-not-is_lawful.true)
 
 pub invariant_of-base : goal.invariant_of-base
-invariant_of-base c = record { lawful = sym c.is_lawful.ensures ∙ c.if-not-is_lawful.false }
+invariant_of-base c = record { once = once-lawful c.starts_of-starts.ensures (sym c.is_lawful.ensures ∙ c.if-not-is_lawful.false) }
 
 pub fill_lawful-requires : goal.fill_lawful-requires
-fill_lawful-requires c = c.requires.stored
+fill_lawful-requires c = record { stored = c.requires.stored; lawful = sym c.is_lawful.ensures ∙ c.if-not-is_lawful.false }
 
 pub returns : goal.returns
 returns c = c.fill_lawful.ensures
