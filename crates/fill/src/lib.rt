@@ -31,7 +31,7 @@ fn fill_lawful(base: &Base<'_>, plan: &Plan, store: &mut [u64]) -> Result<Done, 
     }
     store.fill(0);
     fill_sides::write_sides(base, plan, store);
-    fill_list::write_list(base, plan, store, list);
+    fill_list::write_list(&base.ordered.tables, plan, store, list);
     Ok(Done {
         taken: 0,
         added: added as u64,
